@@ -1,0 +1,46 @@
+-- What calls answer, against what the definitions of `schema` say.
+use Rattle.std.specs.Prelude.{◌≡◌, ℕ, ◌+◌, ◌<◌, ◌≤◌, ◌++◌, List, length, drop, Result, Ok, Err, Option, Some, None}
+use Rattle.schema.specs.Fault as faults
+use Rattle.schema.specs.Fault.{Fault, fault_at}
+use Rattle.schema.specs.Steps.{field_at}
+use Rattle.pb_wire.specs.declared.fault.Reason.{Reason}
+use Rattle.pb_wire.specs.declared.fault.ReadFault.{ReadFault}
+use Rattle.pb_wire.specs.declared.fault.ReadFault.TheVariants.{Wire, NotBuilt, NoMemory}
+use Rattle.pb_wire.specs.declared.fault.WireFault.{WireFault}
+use Rattle.pb_wire.specs.declared.field.Field.{Field}
+use Rattle.pb_wire.specs.View.{field_view, reason_view, fault_view}
+
+-- a call that takes no memory answers what is wanted, seen by view
+abbrev pub Gives : {X Y : Type 0} → (X → Y) → Result X Reason → Result Y faults.Reason → Type 0
+Gives view (Ok x) want = want ≡ Ok (view x)
+Gives view (Err reason) want = want ≡ Err (reason_view reason)
+
+-- the fault is the one that is wanted, or memory was wanting
+abbrev pub IsFault : {S : Type 0} → ReadFault → Result S Fault → Type 0
+IsFault NoMemory want = Unit {0}
+IsFault (NotBuilt place) want = want ≡ Err (fault_at place faults.NotBuilt)
+IsFault (Wire f) want = want ≡ Err (fault_view f)
+
+-- a call that reads answers the value that is wanted, seen by view, or its fault
+abbrev pub Reads : {X Y : Type 0} → (X → Y) → Result X ReadFault → Result Y Fault → Type 0
+Reads view (Ok x) want = want ≡ Ok (view x)
+Reads view (Err e) want = IsFault e want
+
+-- a call that reads onto a value in place leaves the one that is wanted, or answers its fault
+abbrev pub Took : {A S : Type 0} → S → Result A ReadFault → Result S Fault → Type 0
+Took new (Ok a) want = want ≡ Ok new
+Took new (Err e) want = IsFault e want
+
+-- One step over the fields of a body: nothing at its end, else the field that begins there, where it lies and where the
+-- next begins, else what is bad there.
+abbrev pub Steps : ℕ → ℕ → List ℕ → Result (Option (Field × ℕ)) WireFault → Type 0
+Steps base at body (Ok None) = at ≡ length body
+Steps base at body (Ok (Some x)) =
+    (at < x.1) × (x.1 ≤ length body) × (x.0.at ≡ base + at) × (x.0.end ≡ base + x.1)
+    × (field_at (drop at body) ≡ Ok (field_view x.0, drop x.1 body))
+Steps base at body (Err f) = (at < length body) × (f.place ≡ base + at) × (field_at (drop at body) ≡ Err (reason_view f.reason))
+
+-- the bytes so far stay in front
+pub record Begins (old new : List ℕ) : Type 0 where
+  pub added : List ℕ
+  pub is : new ≡ old ++ added

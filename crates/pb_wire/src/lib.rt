@@ -1,0 +1,20 @@
+//! The Protocol Buffers wire format: fields, varints, texts and bytes, and the trait of messages.
+#![tactic(auto)]
+
+mod blob;
+mod fault;
+mod field;
+mod memory;
+mod number;
+mod repeated;
+mod text;
+mod wire;
+
+pub use blob::Blob;
+pub use fault::{ReadFault, Reason, WireFault};
+pub use field::{Field, Payload};
+pub use memory::NoMemory;
+pub use number::Number;
+pub use repeated::Repeated;
+pub use text::Text;
+pub use wire::Wire;

@@ -1,0 +1,69 @@
+//! The elements of a repeated field.
+ghost use Rattle.std.specs.Prelude.{◌≡◌, ◌++◌, ◌∷◌, [], ◌<◌, OnOk, OnErr, OnSome, length, slice_get, ◌==◌};
+ghost use Rattle.std.specs.Option.{option_copied};
+
+use crate::NoMemory;
+use std::alloc::Global;
+use std::marker::Model;
+
+/// The elements of a repeated field, seen as their list.
+#[derive(Debug, Drop)]
+pub struct Repeated<T> {
+    items: Vec<T>,
+}
+
+impl<T> Model for Repeated<T> {
+    ghost use Rattle.std.specs.Prelude.{List};
+
+    ghost Value = { List T };
+
+    ghost view = { λ r. r.items.items };
+}
+
+impl<T> Repeated<T> {
+    /// No elements. It takes no memory.
+    pub fn begin(alloc: Global) -> Repeated<T>
+        ensures { result ≡ [] }
+    {
+        Repeated {
+            items: Vec::new(alloc),
+        }
+    }
+
+    /// The element at a place, or None where the place is at least the length. It takes no memory.
+    pub fn get(&self, place: usize) -> Option<&T>
+        ensures value { option_copied result ≡ slice_get self.now place }
+        ensures within { OnSome result (place < length self.now) }
+    {
+        self.items.get(place)
+    }
+
+    pub fn len(&self) -> usize
+        ensures { result ≡ length self.now }
+    {
+        self.items.len()
+    }
+
+    pub fn is_empty(&self) -> bool
+        ensures { result ≡ (length self.now == 0) }
+    {
+        self.items.is_empty()
+    }
+
+    pub fn as_slice(&self) -> &[T]
+        ensures { result.now ≡ self.now }
+    {
+        &self.items
+    }
+}
+
+impl<T: Drop> Repeated<T> {
+    /// Puts an element at the end. After want of memory the list is as before and the element is dropped.
+    pub fn add(&mut self, element: T) -> Result<(), NoMemory>
+        ensures ok { OnOk result (self.new ≡ self.old ++ element ∷ []) }
+        ensures err { OnErr result (self.new ≡ self.old) }
+    {
+        self.items.push(element)?;
+        Ok(())
+    }
+}

@@ -1,0 +1,11 @@
+pub mod Field
+pub mod Fault
+pub mod Steps
+pub mod Shape
+pub mod Messages
+pub mod Merge
+pub mod Spell
+pub mod Fits
+pub mod Spelling
+pub mod FirstFault
+pub mod Value

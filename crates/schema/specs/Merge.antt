@@ -1,0 +1,156 @@
+-- Reading: one fold over the fields of bytes, which goes on from a value so far. Its Ok is the message value and its Err
+-- the first fault; both are laws, against the relations of `Value` and `FirstFault`.
+use Rattle.std.specs.Prelude.{◌≡◌, ℕ, zero, suc, ◌+◌, ◌-◌, ◌/◌, ◌%◌, List, [], ◌∷◌, ◌++◌, length, take, drop, Result, Ok, Err, ◌==◌, if◌then◌else◌}
+use Rattle.std.specs.Int.{w64, from_le_bytes}
+use Rattle.std.specs.Str.{is_utf8}
+use Rattle.schema.specs.Field.{Payload, Varint, Eight, Long, Four, Field}
+use Rattle.schema.specs.Fault.{Reason, Truncated, NotUtf8, PackedLength, NotBuilt, Fault, fault_at}
+use Rattle.schema.specs.Steps.{◌>>=◌, varint_at, Trace, Done, Bad, Met, trace}
+use Rattle.schema.specs.Shape.{Shape, Number, Fixed, Bytes, Text, Any, Index, Unbuilt, End, One, Many, Format, I32, NumberValue, Value, number_from, empty, fits_one, fits_many}
+
+-- goes over the fields from left to right
+unfoldable pub run : {S : Type 0} → (ℕ → ℕ → Field → S → Result S Fault) → S → Trace → Result S Fault
+run step s Done = Ok s
+run step s (Bad at reason) = Err (fault_at at reason)
+run step s (Met at end f rest) = step at end f s >>= λ t. run step t rest
+
+abbrev pub at_place : {A : Type 0} → ℕ → Result A Reason → Result A Fault
+at_place at (Ok x) = Ok x
+at_place at (Err reason) = Err (fault_at at reason)
+
+-- in a packed payload, a varint that passes its end is a wrong length
+abbrev pub packed_reason : Reason → Reason
+packed_reason Truncated = PackedLength
+packed_reason reason = reason
+
+abbrev pub in_packed : {A : Type 0} → Result A Reason → Result A Reason
+in_packed (Ok x) = Ok x
+in_packed (Err reason) = Err (packed_reason reason)
+
+-- the numbers of a packed payload
+unfoldable pub packed_upto : (w : Format) → ℕ → List ℕ → Result (List (NumberValue w)) Reason
+packed_upto w zero bytes = Ok []
+packed_upto w (suc k) [] = Ok []
+packed_upto w (suc k) (b ∷ bytes) = in_packed (varint_at 9 (b ∷ bytes)) >>= λ n. packed_upto w k n.1 >>= λ ns. Ok (number_from w n.0 ∷ ns)
+
+abbrev pub packed : (w : Format) → List ℕ → Result (List (NumberValue w)) Reason
+packed w bytes = packed_upto w (length bytes) bytes
+
+-- the eight-byte values of a packed payload
+unfoldable pub fixed_upto : ℕ → List ℕ → List ℕ
+fixed_upto zero bytes = []
+fixed_upto (suc k) bytes = from_le_bytes w64 (take 8 bytes) ∷ fixed_upto k (drop 8 bytes)
+
+abbrev pub packed_fixed : List ℕ → List ℕ
+packed_fixed bytes = fixed_upto (length bytes / 8) bytes
+
+-- ---- an occurrence of a singular row, over the value so far
+
+abbrev pub one_number : (w : Format) → Payload → NumberValue w → NumberValue w
+one_number w (Varint n) v = number_from w n
+one_number w payload v = v
+
+abbrev pub one_fixed : Payload → ℕ → ℕ
+one_fixed (Eight b) v = from_le_bytes w64 b
+one_fixed payload v = v
+
+abbrev pub one_bytes : Payload → List ℕ → List ℕ
+one_bytes (Long b) v = b
+one_bytes payload v = v
+
+abbrev pub text_of : ℕ → List ℕ → Result (List ℕ) Fault
+text_of at b = if is_utf8 b then Ok b else Err (fault_at at NotUtf8)
+
+abbrev pub one_text : ℕ → Payload → List ℕ → Result (List ℕ) Fault
+one_text at (Long b) v = text_of at b
+one_text at payload v = Ok v
+
+-- a payload that fits a row that is not read yet is refused, and any other is skipped
+abbrev pub refuse_one : {A : Type 0} → Shape → ℕ → Payload → A → Result A Fault
+refuse_one k at payload v = if fits_one k payload then Err (fault_at at NotBuilt) else Ok v
+
+abbrev pub refuse_many : {A : Type 0} → Shape → ℕ → Payload → A → Result A Fault
+refuse_many k at payload v = if fits_many k payload then Err (fault_at at NotBuilt) else Ok v
+
+-- `inside` takes one field of the message; `at` and `end` are where the tag begins and the payload ends
+abbrev pub put_one : (s : Shape) → (ℕ → ℕ → Field → Value s → Result (Value s) Fault) → ℕ → ℕ → Payload → Value s → Result (Value s) Fault
+put_one (Number w) inside at end payload v = Ok (one_number w payload v)
+put_one (Index T entry) inside at end payload v = Ok (one_number I32 payload v)
+put_one Fixed inside at end payload v = Ok (one_fixed payload v)
+put_one Bytes inside at end payload v = Ok (one_bytes payload v)
+put_one Text inside at end payload v = one_text at payload v
+put_one (Any depth) inside at end payload v = refuse_one (Any depth) at payload v
+put_one (Unbuilt k) inside at end payload v = refuse_one k at payload v
+put_one End inside at end (Long b) v = run inside v (trace (end - length b) b)
+put_one (One n k rest) inside at end (Long b) v = run inside v (trace (end - length b) b)
+put_one (Many n k rest) inside at end (Long b) v = run inside v (trace (end - length b) b)
+put_one s inside at end payload v = Ok v
+
+-- ---- an occurrence of a repeated row, whose elements come behind those so far
+
+abbrev pub put_packed : (w : Format) → ℕ → List ℕ → List (NumberValue w) → Result (List (NumberValue w)) Fault
+put_packed w at b vs = at_place at (packed w b) >>= λ ns. Ok (vs ++ ns)
+
+abbrev pub put_numbers : (w : Format) → ℕ → Payload → List (NumberValue w) → Result (List (NumberValue w)) Fault
+put_numbers w at (Varint n) vs = Ok (vs ++ number_from w n ∷ [])
+put_numbers w at (Long b) vs = put_packed w at b vs
+put_numbers w at payload vs = Ok vs
+
+abbrev pub put_fixed : ℕ → Payload → List ℕ → Result (List ℕ) Fault
+put_fixed at (Eight b) vs = Ok (vs ++ from_le_bytes w64 b ∷ [])
+put_fixed at (Long b) vs = if length b % 8 == 0 then Ok (vs ++ packed_fixed b) else Err (fault_at at PackedLength)
+put_fixed at payload vs = Ok vs
+
+abbrev pub put_bytes : Payload → List (List ℕ) → List (List ℕ)
+put_bytes (Long b) vs = vs ++ b ∷ []
+put_bytes payload vs = vs
+
+abbrev pub put_texts : ℕ → Payload → List (List ℕ) → Result (List (List ℕ)) Fault
+put_texts at (Long b) vs = text_of at b >>= λ t. Ok (vs ++ t ∷ [])
+put_texts at payload vs = Ok vs
+
+abbrev pub put_many : (s : Shape) → (ℕ → ℕ → Field → Value s → Result (Value s) Fault) → ℕ → ℕ → Payload → List (Value s) → Result (List (Value s)) Fault
+put_many (Number w) inside at end payload vs = put_numbers w at payload vs
+put_many (Index T entry) inside at end payload vs = put_numbers I32 at payload vs
+put_many Fixed inside at end payload vs = put_fixed at payload vs
+put_many Bytes inside at end payload vs = Ok (put_bytes payload vs)
+put_many Text inside at end payload vs = put_texts at payload vs
+put_many (Any depth) inside at end payload vs = refuse_many (Any depth) at payload vs
+put_many (Unbuilt k) inside at end payload vs = refuse_many k at payload vs
+put_many End inside at end (Long b) vs = run inside (empty End) (trace (end - length b) b) >>= λ v. Ok (vs ++ v ∷ [])
+put_many (One n k rest) inside at end (Long b) vs = run inside (empty (One n k rest)) (trace (end - length b) b) >>= λ v. Ok (vs ++ v ∷ [])
+put_many (Many n k rest) inside at end (Long b) vs = run inside (empty (Many n k rest)) (trace (end - length b) b) >>= λ v. Ok (vs ++ v ∷ [])
+put_many s inside at end payload vs = Ok vs
+
+-- ---- messages
+
+-- a field of a message, over the value so far; a number that is in no row is skipped
+abbrev pub take_field : (s : Shape) → ℕ → ℕ → Field → Value s → Result (Value s) Fault
+take_field (Number w) at end f v = Ok v
+take_field Fixed at end f v = Ok v
+take_field Bytes at end f v = Ok v
+take_field Text at end f v = Ok v
+take_field (Any depth) at end f v = Ok v
+take_field (Index T entry) at end f v = Ok v
+take_field (Unbuilt k) at end f v = Ok v
+take_field End at end f v = Ok v
+take_field (One n k rest) at end f v =
+    if f.number == n then (put_one k (take_field k) at end f.payload v.0 >>= λ x. Ok (x, v.1))
+    else (take_field rest at end f v.1 >>= λ x. Ok (v.0, x))
+take_field (Many n k rest) at end f v =
+    if f.number == n then (put_many k (take_field k) at end f.payload v.0 >>= λ x. Ok (x, v.1))
+    else (take_field rest at end f v.1 >>= λ x. Ok (v.0, x))
+
+-- what bytes that begin at this place are for a shape, over the value so far: its value, or its first fault
+abbrev pub merge : (s : Shape) → Value s → ℕ → List ℕ → Result (Value s) Fault
+merge s v base bytes = run (take_field s) v (trace base bytes)
+
+-- bytes of a singular message, and where they begin
+pub record Part : Type 0 where
+  pub bytes : List ℕ
+  pub base : ℕ
+
+-- The occurrences of one singular message, in order, are its value, or their first fault.
+abbrev pub merge_all : (s : Shape) → Value s → List Part → Result (Value s) Fault
+merge_all s v [] = Ok v
+merge_all s v (p ∷ ps) = merge s v p.base p.bytes >>= λ w. merge_all s w ps

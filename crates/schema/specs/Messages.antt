@@ -1,0 +1,105 @@
+-- The schema: the messages of the OpenTelemetry Profiles signal that this program reads, a line a message. It is after
+-- opentelemetry-proto 1.9.0 (`common/v1`, `resource/v1`, `profiles/v1development` and its collector service), which is
+-- under development; this table alone decides the fields and their numbers. A field's name stands in the comment, and a
+-- field that is not read yet is marked `Unbuilt`, or `unbuilt` for each field of a message.
+use Rattle.std.specs.Prelude.{ℕ, ◌+◌}
+use Rattle.schema.specs.Shape.{Shape, Number, Fixed, Bytes, Text, Any, Index, Unbuilt, End, One, Many, Format, U32, U64, I32, I64, Flag, Table, Mappings, Locations, Functions, Links, Strings, Attributes, Stacks, unbuilt}
+
+-- an index into the string table
+abbrev pub string : Shape
+string = Index Strings Text
+
+-- ArrayValue of an AnyValue of this depth: 1 values
+abbrev pub array_value : ℕ → Shape
+array_value depth = Many 1 (Any (depth + 1)) End
+
+-- KeyValue: 1 key, 2 value
+abbrev pub key_value : ℕ → Shape
+key_value depth = One 1 Text (One 2 (Any depth) End)
+
+-- KeyValueList of an AnyValue of this depth: 1 values
+abbrev pub key_value_list : ℕ → Shape
+key_value_list depth = Many 1 (key_value (depth + 1)) End
+
+-- AnyValue, of which at most one field is set: 1 string_value, 2 bool_value, 3 int_value, 4 double_value, 5 array_value,
+-- 6 kvlist_value, 7 bytes_value
+abbrev pub any_value : ℕ → Shape
+any_value depth = One 1 Text (One 2 (Number Flag) (One 3 (Number I64) (One 4 Fixed (One 5 (array_value depth) (One 6 (key_value_list depth) (One 7 Bytes End))))))
+
+-- Attr (KeyValueAndUnit): 1 key_strindex, 2 value, 3 unit_strindex
+abbrev pub attribute : Shape
+attribute = One 1 string (One 2 (Any 1) (One 3 string End))
+
+-- Function: 1 name_strindex, 2 system_name_strindex, 3 filename_strindex, 4 start_line
+abbrev pub function : Shape
+function = One 1 string (One 2 string (One 3 string (One 4 (Number I64) End)))
+
+-- Mapping: 1 memory_start, 2 memory_limit, 3 file_offset, 4 filename_strindex, 5 attribute_indices
+abbrev pub mapping : Shape
+mapping = One 1 (Number U64) (One 2 (Number U64) (One 3 (Number U64) (One 4 string (Many 5 (Index Attributes attribute) End))))
+
+-- Line: 1 function_index, 2 line, 3 column
+abbrev pub line : Shape
+line = One 1 (Index Functions function) (One 2 (Number I64) (One 3 (Number I64) End))
+
+-- Location: 1 mapping_index, 2 address, 3 lines, 4 attribute_indices
+abbrev pub location : Shape
+location = One 1 (Index Mappings mapping) (One 2 (Number U64) (Many 3 line (Many 4 (Index Attributes attribute) End)))
+
+-- Stack: 1 location_indices
+abbrev pub stack : Shape
+stack = Many 1 (Index Locations location) End
+
+-- Link: 1 trace_id, 2 span_id
+abbrev pub link : Shape
+link = One 1 Bytes (One 2 Bytes End)
+
+-- ValueType: 1 type_strindex, 2 unit_strindex
+abbrev pub value_type : Shape
+value_type = One 1 string (One 2 string End)
+
+-- Sample: 1 stack_index, 2 values, 3 attribute_indices, 4 link_index, 5 timestamps_unix_nano
+abbrev pub sample : Shape
+sample = One 1 (Index Stacks stack) (Many 2 (Number I64) (Many 3 (Index Attributes attribute) (One 4 (Index Links link) (Many 5 Fixed End))))
+
+-- Profile: 1 sample_type, 2 samples, 3 time_unix_nano, 4 duration_nano, 5 period_type, 6 period, 7 profile_id,
+-- 8 dropped_attributes_count, 9 original_payload_format, 10 original_payload, 11 attribute_indices
+abbrev pub profile : Shape
+profile = One 1 value_type (Many 2 sample (One 3 Fixed (One 4 (Number U64) (One 5 value_type (One 6 (Number I64) (One 7 Bytes (One 8 (Number U32) (One 9 Text (One 10 Bytes (Many 11 (Index Attributes attribute) End))))))))))
+
+-- Scope: 1 name, 2 version, 3 attributes, 4 dropped_attributes_count
+abbrev pub scope : Shape
+scope = One 1 Text (One 2 Text (Many 3 (key_value 1) (One 4 (Number U32) End)))
+
+-- ScopeProfiles: 1 scope, 2 profiles, 3 schema_url
+abbrev pub scope_profiles : Shape
+scope_profiles = One 1 (Unbuilt scope) (Many 2 (unbuilt profile) (One 3 (Unbuilt Text) End))
+
+-- Resource: 1 attributes, 2 dropped_attributes_count, 3 opaque, whose elements are carried unread
+abbrev pub resource : Shape
+resource = Many 1 (key_value 1) (One 2 (Number U32) (Many 3 Bytes End))
+
+-- ResourceProfiles: 1 resource, 2 scope_profiles, 3 schema_url
+abbrev pub resource_profiles : Shape
+resource_profiles = One 1 (Unbuilt resource) (Many 2 scope_profiles (One 3 (Unbuilt Text) End))
+
+-- Dictionary: 1 mapping_table, 2 location_table, 3 function_table, 4 link_table, 5 string_table, 6 attribute_table,
+-- 7 stack_table
+abbrev pub dictionary : Shape
+dictionary = Many 1 (unbuilt mapping) (Many 2 (unbuilt location) (Many 3 (unbuilt function) (Many 4 (unbuilt link) (Many 5 Text (Many 6 (unbuilt attribute) (Many 7 (unbuilt stack) End))))))
+
+-- Envelope (ProfilesData, and the export request): 1 resource_profiles, 2 dictionary
+abbrev pub envelope : Shape
+envelope = Many 1 resource_profiles (One 2 dictionary End)
+
+-- Partial success of an export: 1 rejected_profiles, 2 error_message
+abbrev pub partial_success : Shape
+partial_success = One 1 (Number I64) (One 2 Text End)
+
+-- Export response: 1 partial_success
+abbrev pub export_response : Shape
+export_response = One 1 partial_success End
+
+-- Rpc status: 1 code, 2 message
+abbrev pub rpc_status : Shape
+rpc_status = One 1 (Number I32) (One 2 Text End)

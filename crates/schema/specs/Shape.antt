@@ -1,0 +1,117 @@
+-- The shapes of messages as data, and the values of a shape.
+use Rattle.std.specs.Prelude.{◌≡◌, ℕ, ℤ, pos, ◌%◌, ◌^◌, List, [], Bool, true, false, not, ◌==◌, ◌||◌}
+use Rattle.std.specs.Int.{w32, w64, cast_signed}
+use Rattle.schema.specs.Field.{Payload, wire_type}
+
+-- how a number is written as a varint
+pub data Format : Type 0 where
+  U32 : Format
+  U64 : Format
+  I32 : Format
+  I64 : Format
+  Flag : Format
+
+-- the tables of the dictionary, in the order of its fields
+pub data Table : Type 0 where
+  Mappings : Table
+  Locations : Table
+  Functions : Table
+  Links : Table
+  Strings : Table
+  Attributes : Table
+  Stacks : Table
+
+-- What a field is. A message is its rows in order: `One` for a singular and `Many` for a repeated field, each with its
+-- number and its shape, up to `End`. An index has the shape of the entries of its table, so a shape is a finite tree,
+-- and whatever is said of a shape is said by recursion on it.
+pub data Shape : Type 0 where
+  Number : Format → Shape
+  Fixed : Shape
+  Bytes : Shape
+  Text : Shape
+  -- an AnyValue of this depth, which is not read yet
+  Any : ℕ → Shape
+  Index : Table → Shape → Shape
+  -- a row that is not read yet
+  Unbuilt : Shape → Shape
+  End : Shape
+  One : ℕ → Shape → Shape → Shape
+  Many : ℕ → Shape → Shape → Shape
+
+-- a message, and no number, bytes or text
+abbrev pub IsMessage : Shape → Type 0
+IsMessage End = Unit {0}
+IsMessage (One n k rest) = Unit {0}
+IsMessage (Many n k rest) = Unit {0}
+IsMessage s = ⊥
+
+abbrev pub NumberValue : Format → Type 0
+NumberValue U32 = ℕ
+NumberValue U64 = ℕ
+NumberValue I32 = ℤ
+NumberValue I64 = ℤ
+NumberValue Flag = Bool
+
+-- The values of a shape, with their indexes. A row that is not read yet has no value.
+abbrev pub Value : Shape → Type 0
+Value (Number w) = NumberValue w
+Value Fixed = ℕ
+Value Bytes = List ℕ
+Value Text = List ℕ
+Value (Any depth) = Unit {0}
+Value (Index T entry) = ℤ
+Value (Unbuilt k) = Unit {0}
+Value End = Unit {0}
+Value (One n k rest) = Value k × Value rest
+Value (Many n k rest) = List (Value k) × Value rest
+
+-- The number that a varint stands for ("Base 128 Varints", "More Value Types"): 32 bits are the low ones, signed
+-- numbers are in two's complement, and what is not 0 is true.
+abbrev pub number_from : (w : Format) → ℕ → NumberValue w
+number_from U32 n = n % 2 ^ 32
+number_from U64 n = n
+number_from I32 n = cast_signed w32 (n % 2 ^ 32)
+number_from I64 n = cast_signed w64 n
+number_from Flag n = not (n == 0)
+
+abbrev pub number_zero : (w : Format) → NumberValue w
+number_zero U32 = 0
+number_zero U64 = 0
+number_zero I32 = pos 0
+number_zero I64 = pos 0
+number_zero Flag = false
+
+-- the value of no bytes: each field has its default ("Default Field Values")
+abbrev pub empty : (s : Shape) → Value s
+empty (Number w) = number_zero w
+empty Fixed = 0
+empty Bytes = []
+empty Text = []
+empty (Any depth) = tt
+empty (Index T entry) = pos 0
+empty (Unbuilt k) = tt
+empty End = tt
+empty (One n k rest) = (empty k, empty rest)
+empty (Many n k rest) = ([], empty rest)
+
+-- the wire type of a singular field of a shape
+abbrev pub own_type : Shape → ℕ
+own_type (Number w) = 0
+own_type (Index T entry) = 0
+own_type Fixed = 1
+own_type (Unbuilt k) = own_type k
+own_type s = 2
+
+-- A payload fits a row where its wire type is that of the row's shape, or 2 where the row is repeated, since a repeated
+-- number may be packed.
+abbrev pub fits_one : Shape → Payload → Bool
+fits_one k payload = wire_type payload == own_type k
+
+abbrev pub fits_many : Shape → Payload → Bool
+fits_many k payload = (wire_type payload == own_type k) || (wire_type payload == 2)
+
+-- the same message with no row that is read
+abbrev pub unbuilt : Shape → Shape
+unbuilt (One n k rest) = One n (Unbuilt k) (unbuilt rest)
+unbuilt (Many n k rest) = Many n (Unbuilt k) (unbuilt rest)
+unbuilt s = s
