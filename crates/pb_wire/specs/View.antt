@@ -8,6 +8,7 @@ use Rattle.pb_wire.specs.declared.fault.WireFault.{WireFault}
 use Rattle.pb_wire.specs.declared.field.Payload.{Payload}
 use Rattle.pb_wire.specs.declared.field.Payload.TheVariants as payloads
 use Rattle.pb_wire.specs.declared.field.Field.{Field}
+use Rattle.pb_wire.specs.declared.next.Front.{Front}
 
 abbrev pub payload_view : Payload → wire.Payload
 payload_view (payloads.Varint n) = wire.Varint n
@@ -17,6 +18,9 @@ payload_view (payloads.Fixed32 b) = wire.Four b
 
 abbrev pub field_view : Field → wire.Field
 field_view f = record { number = f.number; payload = payload_view f.payload }
+
+abbrev pub front_view : Front → wire.Field
+front_view f = record { number = f.number; payload = payload_view f.payload }
 
 abbrev pub reason_view : Reason → faults.Reason
 reason_view reasons.Truncated = faults.Truncated

@@ -1,0 +1,5 @@
+pub mod Varint
+pub mod Sizes
+pub mod Trace
+pub mod Merge
+pub mod Begins

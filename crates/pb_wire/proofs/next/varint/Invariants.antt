@@ -1,0 +1,7 @@
+use Rattle.std.proofs.Common.{◌≡◌, ℕ, ◌+◌, ◌-◌, ◌<◌, ◌≤◌, ◌^◌}
+use Rattle.schema.specs.Steps.{varint_at}
+use Rattle.pb_wire.proofs.Varint.{above}
+use Rattle.pb_wire.proofs.next.varint.Given as goal
+
+abbrev pub invariant-loop-place : goal.invariant-loop-place
+invariant-loop-place l = record { scale : l.weight ≡ 128 ^ l.place; small : l.value < l.weight; same : above l.value l.weight (varint_at (9 - l.place) l.rest) ≡ varint_at 9 l.bytes }
