@@ -3,3 +3,4 @@ pub mod Sizes
 pub mod Trace
 pub mod Merge
 pub mod Begins
+pub mod Parts

@@ -29,7 +29,7 @@ impl<'a> Model for Pieces<'a> {
 
     ghost view = { λ p. map part_view p.items.items };
 
-    ghost invariant = { λ p. All (λ q. q.base + length q.bytes < 2 ^ 63) (map part_view p.items.items) };
+    ghost invariant = { λ p. All (λ q. q.base + length q.bytes.now < 2 ^ 63) p.items.items };
 }
 
 impl<'a> Pieces<'a> {
@@ -61,7 +61,7 @@ impl<'a> Pieces<'a> {
 
     pub(crate) fn as_slice(&self) -> &[Piece<'a>]
         ensures items { map part_view result.now ≡ self.now }
-        ensures below { All (λ p. p.base + length p.bytes < 2 ^ 63) (map part_view result.now) }
+        ensures below { All (λ p. p.base + length p.bytes.now < 2 ^ 63) result.now }
     {
         &self.items
     }

@@ -1,14 +1,15 @@
 //! Messages of the schema.
-ghost use Rattle.std.specs.Prelude.{◌≡◌, ◌<◌, ◌≤◌, ◌^◌, length, true, OnOk};
+ghost use Rattle.std.specs.Prelude.{◌≡◌, ◌+◌, ◌<◌, ◌≤◌, ◌^◌, length, true, OnOk};
 ghost use Rattle.schema.specs.Field.{bytes_of};
 ghost use Rattle.schema.specs.Fits.{is_lawful};
-ghost use Rattle.schema.specs.Merge.{take_field};
+ghost use Rattle.schema.specs.Merge.{take_field, merge, merge_all};
 ghost use Rattle.schema.specs.Shape.{Shape, Value, IsMessage, empty};
 ghost use Rattle.schema.specs.Spell.{spell_onto, len_onto};
-ghost use Rattle.pb_wire.specs.Answers.{Took, Begins};
+ghost use Rattle.pb_wire.specs.Answers.{Took, Reads, Begins};
 ghost use Rattle.pb_wire.specs.View.{payload_view, field_view};
 
-use crate::{Blob, Field, NoMemory, ReadFault};
+use crate::next::front_field;
+use crate::{Blob, Field, NoMemory, Pieces, ReadFault, WireFault};
 use std::alloc::Global;
 
 /// A message of the schema. An implementation gives its shape, its view as a value of that shape, and one line for each
@@ -42,4 +43,45 @@ pub trait Wire: Drop {
         requires { len_onto shape 0 (view self.now) < 2 ^ 63 }
         ensures ok { OnOk result (out.new ≡ spell_onto shape out.old (view self.now)) }
         ensures grows { Begins out.old out.new };
+
+    /// Takes the fields of bytes that begin at the place `base` of the file, up to their first fault.
+    final fn merge(&mut self, alloc: Global, bytes: &[u8], base: u64) -> Result<(), ReadFault>
+        requires { base + length bytes.now < 2 ^ 63 }
+        ensures { Took (view self.new) result (merge shape (view self.old) base bytes.now) }
+    {
+        let mut rest = bytes;
+        let mut at = base;
+        while !rest.is_empty() {
+            let (found, after) = match front_field(rest) {
+                Ok(front) => front,
+                Err(reason) => {
+                    return Err(ReadFault::Wire(WireFault { place: at, reason }));
+                }
+            };
+            let end = at + (rest.len() - after.len()) as u64;
+            let field = Field {
+                number: found.number,
+                at,
+                end,
+                payload: found.payload,
+            };
+            self.take(alloc, &field)?;
+            rest = after;
+            at = end;
+        }
+        Ok(())
+    }
+
+    /// The value of the joined occurrences of one singular message, or the first fault in written order.
+    final fn read(alloc: Global, pieces: &Pieces<'_>) -> Result<Self, ReadFault>
+        ensures { Reads view result (merge_all shape (empty shape) pieces.now) }
+    {
+        let mut message = Self::none(alloc);
+        for piece in pieces.as_slice() {
+            if let Err(fault) = message.merge(alloc, piece.bytes, piece.base) {
+                return Err(fault);
+            }
+        }
+        Ok(message)
+    }
 }

@@ -1,0 +1,10 @@
+use Rattle.std.proofs.Common.{◌≡◌, drop, map}
+use Rattle.schema.specs.Merge.{merge_all}
+use Rattle.schema.specs.Shape.{empty}
+use Rattle.pb_wire.specs.Parts.{part_view}
+use Rattle.pb_wire.proofs.wire.Wire.read.Given as goal
+
+abbrev pub invariant-loop-piece : goal.invariant-loop-piece
+invariant-loop-piece g l =
+    merge_all g.Self.Wire.shape (g.Self.Wire.view l.message) (map part_view (drop l.piece-index l.piece-items))
+    ≡ merge_all g.Self.Wire.shape (empty g.Self.Wire.shape) l.pieces
