@@ -4,3 +4,4 @@ pub mod Trace
 pub mod Merge
 pub mod Begins
 pub mod Parts
+pub mod Rows

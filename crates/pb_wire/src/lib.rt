@@ -9,6 +9,7 @@ mod next;
 mod number;
 mod pieces;
 mod repeated;
+mod take;
 mod text;
 mod wire;
 
@@ -20,5 +21,9 @@ pub use next::next_field;
 pub use number::Number;
 pub use pieces::{Piece, Pieces};
 pub use repeated::Repeated;
+pub use take::{
+    RowType, add_bytes, add_message, add_number, add_text, refuse_many, refuse_one, take_bytes,
+    take_fixed, take_message, take_number, take_text,
+};
 pub use text::Text;
 pub use wire::Wire;

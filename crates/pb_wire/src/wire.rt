@@ -19,10 +19,6 @@ pub trait Wire: Drop {
 
     ghost view: { Self → Value shape };
 
-    ghost message: { IsMessage shape };
-
-    ghost lawful: { is_lawful shape ≡ true };
-
     /// The message without fields. It takes no memory.
     fn none(alloc: Global) -> Self
         ensures { view result ≡ empty shape };
@@ -43,6 +39,10 @@ pub trait Wire: Drop {
         requires { len_onto shape 0 (view self.now) < 2 ^ 63 }
         ensures ok { OnOk result (out.new ≡ spell_onto shape out.old (view self.now)) }
         ensures grows { Begins out.old out.new };
+
+    ghost message: { IsMessage shape };
+
+    ghost lawful: { is_lawful shape ≡ true };
 
     /// Takes the fields of bytes that begin at the place `base` of the file, up to their first fault.
     final fn merge(&mut self, alloc: Global, bytes: &[u8], base: u64) -> Result<(), ReadFault>

@@ -1,0 +1,10 @@
+use Rattle.std.proofs.Common.{◌≡◌, subst, sym, ap, ◌∙◌}
+use Rattle.schema.specs.Merge.{take_field}
+use Rattle.pb_wire.proofs.Rows.{put_one_message, put_one_other}
+use Rattle.pb_wire.proofs.take.take_message.Goals as goal
+
+pub returns-in-Bytes : goal.returns-in-Bytes
+returns-in-Bytes g c = rw (c.in-Bytes.is, put_one_message g.T.Wire.shape (take_field g.T.Wire.shape) c.args.field.now.at c.args.field.now.end c.in-Bytes.bytes.now (g.T.Wire.view c.args.slot.now) g.met.T.Wire.message) c.merge.ensures
+
+pub returns-in_default : goal.returns-in_default
+returns-in_default g c = put_one_other g.T.Wire.shape (take_field g.T.Wire.shape) c.args.field.now.at c.args.field.now.end c.args.field.now.payload (g.T.Wire.view c.args.slot.now) g.met.T.Wire.message c.in_default.not-Bytes

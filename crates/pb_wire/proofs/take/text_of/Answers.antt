@@ -1,0 +1,15 @@
+use Rattle.std.proofs.Common.{refl, ◌≡◌, Bool, true, false, ◌∙◌, sym, ap, Result, Ok, List, ℕ}
+use Rattle.std.proofs.lemmas.Bool.{false_from_ne_true}
+use Rattle.std.proofs.lemmas.Str.{IsUtf8-from_is_utf8, is_utf8-from_IsUtf8}
+use Rattle.std.specs.Str.{is_utf8}
+use Rattle.pb_wire.proofs.take.text_of.Goals as goal
+
+pub returns-in_ok-copy_of-in-Ok : goal.returns-in_ok-copy_of-in-Ok
+returns-in_ok-copy_of-in-Ok c =
+    let u = is_utf8-from_IsUtf8 c.args.bytes.now c.in-Ok.ensures.cases.1 in
+    rw (u, c.in_ok-copy_of-in-Ok.ensures, c.in-Ok.ensures.cases.0) refl
+
+pub returns-in-Err : goal.returns-in-Err
+returns-in-Err c =
+    let u = false_from_ne_true (is_utf8 c.args.bytes.now) (λ e. c.in-Err.ensures.cases.0 (IsUtf8-from_is_utf8 c.args.bytes.now e)) in
+    rw u refl

@@ -1,0 +1,225 @@
+//! One occurrence of a field, taken by its row: singular rows over the value so far, repeated ones behind the elements so
+//! far. A payload whose wire type doesn't fit the row is skipped.
+ghost use Rattle.std.specs.Prelude.{◌≡◌, ◌<◌, ◌≤◌, ◌^◌, length, map, Ok};
+ghost use Rattle.schema.specs.Field.{bytes_of};
+ghost use Rattle.schema.specs.Merge.{one_number, one_fixed, one_bytes, one_text, text_of as text_at, put_one, put_many, put_packed, put_numbers, put_fixed, put_bytes, put_texts, packed_reason as packed_reason_of, take_field};
+ghost use Rattle.schema.specs.Shape.{fits_one};
+ghost use Rattle.pb_wire.specs.Answers.{Reads, Took};
+ghost use Rattle.pb_wire.specs.RowTypes.{shape_of, RefusesOne, RefusesMany};
+ghost use Rattle.pb_wire.specs.View.{payload_view, reason_view};
+
+use crate::next::varint;
+use crate::{Blob, Field, NoMemory, Number, Payload, ReadFault, Reason, Repeated, Text, Wire, WireFault};
+use std::alloc::Global;
+
+/// Takes a singular number: the last occurrence wins.
+#[inline]
+pub fn take_number<N: Number>(slot: &mut N, field: &Field<'_>) -> Result<(), ReadFault>
+    ensures { Took (N.value slot.new) result (Ok (one_number N.format (payload_view field.now.payload) (N.value slot.old))) }
+{
+    if let Payload::Varint(varint) = field.payload {
+        *slot = N::from_varint(varint);
+    }
+    Ok(())
+}
+
+/// Takes a singular eight-byte number, whose low byte comes first.
+#[inline]
+pub fn take_fixed(slot: &mut u64, field: &Field<'_>) -> Result<(), ReadFault>
+    ensures { Took slot.new result (Ok (one_fixed (payload_view field.now.payload) slot.old)) }
+{
+    if let Payload::Fixed64(bytes) = field.payload {
+        *slot = u64::from_le_bytes(bytes);
+    }
+    Ok(())
+}
+
+/// Takes singular bytes.
+pub fn take_bytes(slot: &mut Blob, alloc: Global, field: &Field<'_>) -> Result<(), ReadFault>
+    ensures { Took slot.new result (Ok (one_bytes (payload_view field.now.payload) slot.old)) }
+{
+    if let Payload::Bytes(bytes) = field.payload {
+        *slot = Blob::copy_of(alloc, bytes)?;
+    }
+    Ok(())
+}
+
+// The text of bytes, which are at the place of its tag.
+fn text_of(alloc: Global, bytes: &[u8], at: u64) -> Result<Text, ReadFault>
+    ensures { Reads (λ t. t) result (text_at at bytes.now) }
+{
+    match str::from_utf8(bytes) {
+        Ok(text) => Ok(Text::copy_of(alloc, text)?),
+        Err(_) => Err(ReadFault::Wire(WireFault {
+            place: at,
+            reason: Reason::NotUtf8,
+        })),
+    }
+}
+
+/// Takes a singular text.
+pub fn take_text(slot: &mut Text, alloc: Global, field: &Field<'_>) -> Result<(), ReadFault>
+    ensures { Took slot.new result (one_text field.now.at (payload_view field.now.payload) slot.old) }
+{
+    if let Payload::Bytes(bytes) = field.payload {
+        *slot = text_of(alloc, bytes, field.at)?;
+    }
+    Ok(())
+}
+
+/// Takes a singular message: its occurrences are read as their payloads joined.
+pub fn take_message<T: Wire>(
+    slot: &mut T,
+    alloc: Global,
+    field: &Field<'_>,
+) -> Result<(), ReadFault>
+    requires inside { length (bytes_of (payload_view field.now.payload)) ≤ field.now.end }
+    requires below { field.now.end < 2 ^ 63 }
+    ensures { Took (T.view slot.new) result (put_one T.shape (take_field T.shape) field.now.at field.now.end (payload_view field.now.payload) (T.view slot.old)) }
+{
+    match field.payload {
+        Payload::Bytes(bytes) => slot.merge(alloc, bytes, field.end - bytes.len() as u64),
+        _ => Ok(()),
+    }
+}
+
+/// Takes one element of a repeated message.
+pub fn add_message<T: Wire>(
+    slot: &mut Repeated<T>,
+    alloc: Global,
+    field: &Field<'_>,
+) -> Result<(), ReadFault>
+    requires inside { length (bytes_of (payload_view field.now.payload)) ≤ field.now.end }
+    requires below { field.now.end < 2 ^ 63 }
+    ensures { Took (map T.view slot.new) result (put_many T.shape (take_field T.shape) field.now.at field.now.end (payload_view field.now.payload) (map T.view slot.old)) }
+{
+    match field.payload {
+        Payload::Bytes(bytes) => {
+            let mut element = T::none(alloc);
+            element.merge(alloc, bytes, field.end - bytes.len() as u64)?;
+            slot.add(element)?;
+            Ok(())
+        }
+        _ => Ok(()),
+    }
+}
+
+// In a packed payload, a varint that passes its end is a wrong length.
+fn packed_reason(reason: Reason) -> Reason
+    ensures { reason_view result ≡ packed_reason_of (reason_view reason) }
+{
+    match reason {
+        Reason::Truncated => Reason::PackedLength,
+        _ => reason,
+    }
+}
+
+// The numbers of a packed payload, whose tag is at a place.
+fn add_packed<N: Number>(slot: &mut Repeated<N>, bytes: &[u8], at: u64) -> Result<(), ReadFault>
+    ensures { Took (map N.value slot.new) result (put_packed N.format at bytes.now (map N.value slot.old)) }
+{
+    let mut rest = bytes;
+    while !rest.is_empty() {
+        let (found, after) = match varint(rest) {
+            Ok(front) => front,
+            Err(reason) => {
+                let reason = packed_reason(reason);
+                return Err(ReadFault::Wire(WireFault { place: at, reason }));
+            }
+        };
+        slot.add(N::from_varint(found))?;
+        rest = after;
+    }
+    Ok(())
+}
+
+/// Takes the elements of a repeated number, packed or not.
+pub fn add_number<N: Number>(slot: &mut Repeated<N>, field: &Field<'_>) -> Result<(), ReadFault>
+    ensures { Took (map N.value slot.new) result (put_numbers N.format field.now.at (payload_view field.now.payload) (map N.value slot.old)) }
+{
+    match field.payload {
+        Payload::Varint(varint) => {
+            slot.add(N::from_varint(varint))?;
+            Ok(())
+        }
+        Payload::Bytes(bytes) => add_packed(slot, bytes, field.at),
+        _ => Ok(()),
+    }
+}
+
+/// Takes one element of repeated bytes.
+pub fn add_bytes(
+    slot: &mut Repeated<Blob>,
+    alloc: Global,
+    field: &Field<'_>,
+) -> Result<(), ReadFault>
+    ensures { Took slot.new result (Ok (put_bytes (payload_view field.now.payload) slot.old)) }
+{
+    match field.payload {
+        Payload::Bytes(bytes) => {
+            slot.add(Blob::copy_of(alloc, bytes)?)?;
+            Ok(())
+        }
+        _ => Ok(()),
+    }
+}
+
+/// Takes one element of a repeated text.
+pub fn add_text(
+    slot: &mut Repeated<Text>,
+    alloc: Global,
+    field: &Field<'_>,
+) -> Result<(), ReadFault>
+    ensures { Took slot.new result (put_texts field.now.at (payload_view field.now.payload) slot.old) }
+{
+    match field.payload {
+        Payload::Bytes(bytes) => {
+            slot.add(text_of(alloc, bytes, field.at)?)?;
+            Ok(())
+        }
+        _ => Ok(()),
+    }
+}
+
+/// The wire type of a row's shape.
+#[derive(Clone, Copy, Debug, PartialEq, Eq)]
+pub enum RowType {
+    Varint,
+    Fixed64,
+    Bytes,
+}
+
+// Whether the payload has the wire type of the row.
+#[inline]
+fn has_type(row: RowType, payload: &Payload<'_>) -> bool
+    ensures { result ≡ fits_one (shape_of row) (payload_view payload.now) }
+{
+    match (row, payload) {
+        (RowType::Varint, Payload::Varint(_)) => true,
+        (RowType::Fixed64, Payload::Fixed64(_)) => true,
+        (RowType::Bytes, Payload::Bytes(_)) => true,
+        _ => false,
+    }
+}
+
+/// Refuses an occurrence that fits a singular row which this program does not read yet.
+#[inline]
+pub fn refuse_one(row: RowType, field: &Field<'_>) -> Result<(), ReadFault>
+    ensures { RefusesOne row field.now.at (payload_view field.now.payload) result }
+{
+    if has_type(row, &field.payload) {
+        return Err(ReadFault::NotBuilt { place: field.at });
+    }
+    Ok(())
+}
+
+/// Refuses an occurrence that fits a repeated row which this program does not read yet.
+#[inline]
+pub fn refuse_many(row: RowType, field: &Field<'_>) -> Result<(), ReadFault>
+    ensures { RefusesMany row field.now.at (payload_view field.now.payload) result }
+{
+    if has_type(row, &field.payload) || has_type(RowType::Bytes, &field.payload) {
+        return Err(ReadFault::NotBuilt { place: field.at });
+    }
+    Ok(())
+}
