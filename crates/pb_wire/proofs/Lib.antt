@@ -5,3 +5,4 @@ pub mod Merge
 pub mod Begins
 pub mod Parts
 pub mod Rows
+pub mod Eights

@@ -22,7 +22,7 @@ pub use number::Number;
 pub use pieces::{Piece, Pieces};
 pub use repeated::Repeated;
 pub use take::{
-    RowType, add_bytes, add_message, add_number, add_text, refuse_many, refuse_one, take_bytes,
+    RowType, add_bytes, add_fixed, add_message, add_number, add_text, refuse_many, refuse_one, take_bytes,
     take_fixed, take_message, take_number, take_text,
 };
 pub use text::Text;

@@ -2,7 +2,7 @@
 //! far. A payload whose wire type doesn't fit the row is skipped.
 ghost use Rattle.std.specs.Prelude.{◌≡◌, ◌<◌, ◌≤◌, ◌^◌, length, map, Ok};
 ghost use Rattle.schema.specs.Field.{bytes_of};
-ghost use Rattle.schema.specs.Merge.{one_number, one_fixed, one_bytes, one_text, text_of as text_at, put_one, put_many, put_packed, put_numbers, put_fixed, put_bytes, put_texts, packed_reason as packed_reason_of, take_field};
+ghost use Rattle.schema.specs.Merge.{one_number, one_fixed, one_bytes, one_text, text_of as text_at, put_one, put_many, put_packed, put_numbers, put_fixed, put_packed_fixed, put_bytes, put_texts, packed_reason as packed_reason_of, take_field};
 ghost use Rattle.schema.specs.Shape.{fits_one};
 ghost use Rattle.pb_wire.specs.Answers.{Reads, Took};
 ghost use Rattle.pb_wire.specs.RowTypes.{shape_of, RefusesOne, RefusesMany};
@@ -143,6 +143,38 @@ pub fn add_number<N: Number>(slot: &mut Repeated<N>, field: &Field<'_>) -> Resul
             Ok(())
         }
         Payload::Bytes(bytes) => add_packed(slot, bytes, field.at),
+        _ => Ok(()),
+    }
+}
+
+// The eight-byte numbers of a packed payload, whose tag is at a place.
+fn add_packed_fixed(slot: &mut Repeated<u64>, bytes: &[u8], at: u64) -> Result<(), ReadFault>
+    ensures { Took slot.new result (put_packed_fixed at bytes.now slot.old) }
+{
+    if bytes.len() % 8 != 0 {
+        return Err(ReadFault::Wire(WireFault {
+            place: at,
+            reason: Reason::PackedLength,
+        }));
+    }
+    let mut rest = bytes;
+    while let Some((front, after)) = rest.split_first_chunk::<8>() {
+        slot.add(u64::from_le_bytes(*front))?;
+        rest = after;
+    }
+    Ok(())
+}
+
+/// Takes the elements of a repeated eight-byte number, packed or not.
+pub fn add_fixed(slot: &mut Repeated<u64>, field: &Field<'_>) -> Result<(), ReadFault>
+    ensures { Took slot.new result (put_fixed field.now.at (payload_view field.now.payload) slot.old) }
+{
+    match field.payload {
+        Payload::Fixed64(bytes) => {
+            slot.add(u64::from_le_bytes(bytes))?;
+            Ok(())
+        }
+        Payload::Bytes(bytes) => add_packed_fixed(slot, bytes, field.at),
         _ => Ok(()),
     }
 }

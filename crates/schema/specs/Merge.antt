@@ -96,9 +96,12 @@ put_numbers w at (Varint n) vs = Ok (vs ++ number_from w n ∷ [])
 put_numbers w at (Long b) vs = put_packed w at b vs
 put_numbers w at payload vs = Ok vs
 
+abbrev pub put_packed_fixed : ℕ → List ℕ → List ℕ → Result (List ℕ) Fault
+put_packed_fixed at b vs = if length b % 8 == 0 then Ok (vs ++ packed_fixed b) else Err (fault_at at PackedLength)
+
 abbrev pub put_fixed : ℕ → Payload → List ℕ → Result (List ℕ) Fault
 put_fixed at (Eight b) vs = Ok (vs ++ from_le_bytes w64 b ∷ [])
-put_fixed at (Long b) vs = if length b % 8 == 0 then Ok (vs ++ packed_fixed b) else Err (fault_at at PackedLength)
+put_fixed at (Long b) vs = put_packed_fixed at b vs
 put_fixed at payload vs = Ok vs
 
 abbrev pub put_bytes : Payload → List (List ℕ) → List (List ℕ)
