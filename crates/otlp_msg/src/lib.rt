@@ -1,0 +1,26 @@
+//! The messages of the OpenTelemetry Profiles signal: what a file says, or why it is refused.
+#![tactic(auto)]
+
+mod attribute;
+mod dictionary;
+mod function;
+mod link;
+mod location;
+mod mapping;
+mod message;
+mod profile;
+mod resource_profiles;
+mod scope_profiles;
+mod stack;
+
+pub use attribute::Attr;
+pub use dictionary::{Dictionary, TableKind};
+pub use function::Function;
+pub use link::Link;
+pub use location::Location;
+pub use mapping::Mapping;
+pub use message::Message;
+pub use profile::Profile;
+pub use resource_profiles::{ResourceList, ResourceProfiles};
+pub use scope_profiles::ScopeProfiles;
+pub use stack::Stack;

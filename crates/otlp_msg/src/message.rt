@@ -1,0 +1,53 @@
+//! A whole message.
+ghost use Rattle.std.specs.Prelude.{refl};
+ghost use Rattle.schema.specs.Messages.{envelope};
+ghost use Rattle.otlp_msg.specs.Views.{message_view};
+
+use crate::{Dictionary, ResourceList, ResourceProfiles};
+use pb_wire::{
+    Blob, Field, NoMemory, ReadFault, Repeated, Wire, add_message, message_len, messages_len,
+    put_message, put_messages, take_message,
+};
+use std::alloc::Global;
+
+/// A message: its resource records, and the dictionary that they share.
+#[derive(Debug, Drop)]
+pub struct Message {
+    pub records: ResourceList,
+    pub dictionary: Dictionary,
+}
+
+impl Wire for Message {
+    ghost shape = { envelope };
+
+    ghost view = { message_view };
+
+    ghost message = { tt };
+
+    ghost lawful = { refl };
+
+    fn none(alloc: Global) -> Message {
+        Message {
+            records: Repeated::begin(alloc),
+            dictionary: Dictionary::none(alloc),
+        }
+    }
+
+    fn take(&mut self, alloc: Global, field: &Field<'_>) -> Result<(), ReadFault> {
+        match field.number {
+            1 => add_message::<ResourceProfiles>(&mut self.records, alloc, field),
+            2 => take_message(&mut self.dictionary, alloc, field),
+            _ => Ok(()),
+        }
+    }
+
+    fn rows_len(&self) -> u64 {
+        messages_len::<ResourceProfiles>(1, &self.records) + message_len(2, &self.dictionary)
+    }
+
+    fn put_rows(&self, out: &mut Blob) -> Result<(), NoMemory> {
+        put_messages::<ResourceProfiles>(out, 1, &self.records)?;
+        put_message(out, 2, &self.dictionary)?;
+        Ok(())
+    }
+}
