@@ -14,6 +14,9 @@ pub begins_trans : (old middle new : List ℕ) → Begins old middle → Begins 
 begins_trans old middle new b d =
     record { added = b.added ++ d.added; is = d.is ∙ ap (λ (t : List ℕ). t ++ d.added) b.is ∙ append_assoc old b.added d.added }
 
+-- for a function that puts one thing after the other
+pub ruleset growing = (begins_same, begins_append, begins_trans)
+
 -- what was put behind the bytes is cut off again
 pub cut_back : (old new : List ℕ) → Begins old new → take (length old) new ≡ old
 cut_back old new b = ap (take (length old)) b.is ∙ take-append_seam old b.added

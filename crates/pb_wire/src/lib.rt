@@ -16,7 +16,7 @@ pub use fault::{ReadFault, Reason, WireFault};
 pub use field::{Field, Payload};
 pub use memory::NoMemory;
 pub use number::Number;
-pub use put::varint_len;
+pub use put::{put_field, put_varint, varint_len};
 pub use repeated::Repeated;
 pub use text::Text;
 pub use wire::Wire;

@@ -1,6 +1,6 @@
 //! Writing varints and single fields.
 ghost use Rattle.std.specs.Prelude.{◌≡◌, ◌+◌, ◌*◌, ◌<◌, ◌≤◌, ◌^◌, ◌++◌, length, OnOk, OnErr};
-ghost use Rattle.schema.specs.Spell.{varint, field_text};
+ghost use Rattle.schema.specs.Spell.{varint, long_field, field_text};
 ghost use Rattle.pb_wire.specs.Answers.{Begins};
 ghost use Rattle.pb_wire.specs.View.{payload_view};
 
@@ -36,8 +36,8 @@ pub fn varint_len(value: u64) -> usize
 }
 
 /// Puts the shortest varint at the end; after want of memory a part of it may stand there.
-#[tactic(auto, using(crate::proofs::Spelled::varint_small, crate::proofs::Spelled::varint_onto, crate::proofs::Begins::begins_append, crate::proofs::Begins::begins_trans))]
-pub fn push_varint(out: &mut Blob, value: u64) -> Result<(), NoMemory>
+#[tactic(auto, using(crate::proofs::Spelled::varint_small, crate::proofs::Spelled::varint_onto, crate::proofs::Begins::growing))]
+pub(crate) fn push_varint(out: &mut Blob, value: u64) -> Result<(), NoMemory>
     ensures ok { OnOk result (out.new ≡ out.old ++ varint value) }
     ensures grows { Begins out.old out.new }
 {
@@ -49,5 +49,75 @@ pub fn push_varint(out: &mut Blob, value: u64) -> Result<(), NoMemory>
         rest /= 128;
     }
     out.push(rest as u8)?;
+    Ok(())
+}
+
+/// Puts the shortest varint at the end, all of it or nothing.
+#[tactic(auto, using(crate::proofs::Begins::cut_back))]
+pub fn put_varint(out: &mut Blob, value: u64) -> Result<(), NoMemory>
+    ensures ok { OnOk result (out.new ≡ out.old ++ varint value) }
+    ensures err { OnErr result (out.new ≡ out.old) }
+{
+    let begin = out.len();
+    if let Err(stop) = push_varint(out, value) {
+        out.truncate(begin);
+        return Err(stop);
+    }
+    Ok(())
+}
+
+/// Puts a tag, a length and bytes at the end; after want of memory a part of it may stand there.
+#[tactic(auto, using(crate::proofs::Begins::growing), unfolding(schema::specs::Spell::long_field))]
+pub(crate) fn push_long(out: &mut Blob, number: u32, bytes: &[u8]) -> Result<(), NoMemory>
+    requires { number < 2 ^ 29 }
+    ensures ok { OnOk result (out.new ≡ out.old ++ long_field number bytes.now) }
+    ensures grows { Begins out.old out.new }
+{
+    push_varint(out, number as u64 * 8 + 2)?;
+    push_varint(out, bytes.len() as u64)?;
+    out.append(bytes)?;
+    Ok(())
+}
+
+/// Puts a field at the end; after want of memory a part of it may stand there.
+#[tactic(auto, using(crate::proofs::Begins::growing))]
+fn push_field(out: &mut Blob, number: u32, payload: &Payload<'_>) -> Result<(), NoMemory>
+    requires { number < 2 ^ 29 }
+    ensures ok { OnOk result (out.new ≡ out.old ++ field_text number (payload_view payload.now)) }
+    ensures grows { Begins out.old out.new }
+{
+    match payload {
+        Payload::Varint(value) => {
+            push_varint(out, number as u64 * 8)?;
+            push_varint(out, *value)?;
+            Ok(())
+        }
+        Payload::Fixed64(bytes) => {
+            push_varint(out, number as u64 * 8 + 1)?;
+            out.append(bytes)?;
+            Ok(())
+        }
+        Payload::Bytes(bytes) => push_long(out, number, bytes),
+        Payload::Fixed32(bytes) => {
+            push_varint(out, number as u64 * 8 + 5)?;
+            out.append(bytes)?;
+            Ok(())
+        }
+    }
+}
+
+/// Puts a field at the end, all of it or nothing. Its number is at least 1 and at most 536,870,911.
+#[tactic(auto, using(crate::proofs::Begins::cut_back))]
+pub fn put_field(out: &mut Blob, number: u32, payload: &Payload<'_>) -> Result<(), NoMemory>
+    requires above { 1 ≤ number }
+    requires below { number ≤ 536870911 }
+    ensures ok { OnOk result (out.new ≡ out.old ++ field_text number (payload_view payload.now)) }
+    ensures err { OnErr result (out.new ≡ out.old) }
+{
+    let begin = out.len();
+    if let Err(stop) = push_field(out, number, payload) {
+        out.truncate(begin);
+        return Err(stop);
+    }
     Ok(())
 }
