@@ -1,2 +1,3 @@
 pub mod Spelled
 pub mod Begins
+pub mod Rows
