@@ -1,16 +1,29 @@
 -- The lengths of fields, and repeated fields element by element.
-use Rattle.std.proofs.Common.{◌≡◌, ℕ, zero, suc, ◌+◌, ◌*◌, ◌<◌, ◌≤◌, ◌^◌, Bool, true, false, List, [], ◌∷◌, ◌++◌, length, take, get_or, map, refl, sym, ap, ◌∙◌, inl, inr, arith, append_assoc, length-append}
+use Rattle.std.proofs.Common.{rules, ◌≡◌, ℕ, zero, suc, ◌+◌, ◌*◌, ◌<◌, ◌≤◌, ◌^◌, Bool, true, false, List, [], ◌∷◌, ◌++◌, length, take, get_or, map, refl, sym, ap, ◌∙◌, inl, inr, arith, append_assoc, length-append}
 use Rattle.std.specs.Prelude.{◌==◌, if◌then◌else◌}
 use Rattle.std.specs.Int.{w64, to_le_bytes}
 use Rattle.std.specs.List.{flat_map}
 use Rattle.std.proofs.lemmas.List.{append-nil}
-use Rattle.std.proofs.lemmas.List.Folds.{flat_map-map}
-use Rattle.schema.specs.Spell.{varint, long_field, bytes_field, items_text, fixed_text}
+use Rattle.std.proofs.lemmas.List.Folds.{flat_map-map, length-flat_map-take}
+use Rattle.std.proofs.lemmas.Grind.{take_at_read, flat_map-append}
+use Rattle.schema.specs.Shape.{Shape, Value, Format, NumberValue}
+use Rattle.schema.specs.Spell.{varint, spell, len_onto, number_to, long_field, bytes_field, numbers_text, items_text, fixed_text}
+use Rattle.pb_wire.proofs.Spelled.{onto_len}
 
 -- bytes behind their length
 pub long_len : (n : ℕ) (b : List ℕ) → length (long_field n b) ≡ length (varint (n * 8 + 2)) + length (varint (length b)) + length b
 unfolding long_field
 long_len n b = omega (arith, length-append (varint (n * 8 + 2) ++ varint (length b)) b, length-append (varint (n * 8 + 2)) (varint (length b)))
+
+-- the same, where the length has another name
+pub long_len_at : (n len : ℕ) (b : List ℕ) → len ≡ length b → length (long_field n b) ≡ length (varint (n * 8 + 2)) + length (varint len) + len
+long_len_at n len b e = long_len n b ∙ ap (λ (m : ℕ). length (varint (n * 8 + 2)) + length (varint m) + m) (sym e)
+
+-- a tag, a length and bytes, behind what is put, are the field
+pub long_onto : (out : List ℕ) (n len : ℕ) (b : List ℕ) → len ≡ length b → ((out ++ varint (n * 8 + 2)) ++ varint len) ++ b ≡ out ++ long_field n b
+unfolding long_field
+long_onto out n len b e =
+    ap (λ (m : ℕ). ((out ++ varint (n * 8 + 2)) ++ varint m) ++ b) e ∙ simp append_assoc
 
 -- none are left out
 pub bytes_none : (n : ℕ) (b : List ℕ) → length b ≡ 0 → bytes_field n b ≡ []
@@ -18,11 +31,14 @@ unfolding bytes_field
 bytes_none n [] e = refl
 bytes_none n (x ∷ b) e = absurd (omega (arith, e))
 
+pub left_out : (out : List ℕ) (n : ℕ) (b : List ℕ) → length b ≡ 0 → out ≡ out ++ bytes_field n b
+left_out out n b e = sym (append-nil out) ∙ ap (λ (t : List ℕ). out ++ t) (sym (bytes_none n b e))
+
 -- some are written
 pub bytes_some : (n : ℕ) (b : List ℕ) → 0 < length b → bytes_field n b ≡ long_field n b
 unfolding bytes_field
 bytes_some n [] lt = absurd (omega (arith, lt))
-bytes_some n (x ∷ b) lt = refl
+bytes_some n (x ∷ b) lt = let t : (suc (length b) == 0) ≡ false = search rules in rw t refl
 
 -- bytes are no longer than their field
 pub bytes_within : (n : ℕ) (b : List ℕ) → length b ≤ length (bytes_field n b)
@@ -34,7 +50,32 @@ pub items_of : {X Y : Type 0} (n : ℕ) (inner : Y → List ℕ) (view : X → Y
 items_of n inner view [] = refl
 items_of n inner view (x ∷ xs) = ap (λ (t : List ℕ). long_field n (inner (view x)) ++ t) (items_of n inner view xs)
 
+-- packed numbers that are seen by value
+pub numbers_of : {X : Type 0} (w : Format) (value : X → NumberValue w) (xs : List X) → numbers_text w (map value xs) ≡ flat_map (λ x. varint (number_to w (value x))) xs
+numbers_of w value xs = flat_map-map (λ v. varint (number_to w v)) value xs
+
 -- packed eight-byte values
 pub fixed_length : (vs : List ℕ) → length (fixed_text vs) ≡ 8 * length vs
 fixed_length [] = refl
 fixed_length (v ∷ vs) = omega (arith, length-append (to_le_bytes w64 v) (fixed_text vs), fixed_length vs)
+
+-- the text of the elements up to this one, and that its length is within that of all
+pub next_text : {X : Type 0} (f : X → List ℕ) (xs : List X) (i : ℕ) (x : X) → i < length xs → x ≡ get_or xs i x → flat_map f (take (i + 1) xs) ≡ flat_map f (take i xs) ++ f x
+next_text f xs i x lt e =
+    ap (flat_map f) ((take_at_read xs i x lt).1 ∙ ap (λ y. take i xs ++ y ∷ []) (sym e))
+    ∙ flat_map-append f (take i xs) (x ∷ []) ∙ ap (λ (t : List ℕ). flat_map f (take i xs) ++ t) (append-nil (f x))
+
+pub next_length : {X : Type 0} (f : X → List ℕ) (xs : List X) (i : ℕ) (x : X) → i < length xs → x ≡ get_or xs i x
+    → length (flat_map f (take (i + 1) xs)) ≡ length (flat_map f (take i xs)) + length (f x)
+next_length f xs i x lt e = ap length (next_text f xs i x lt e) ∙ length-append (flat_map f (take i xs)) (f x)
+
+pub next_within : {X : Type 0} (f : X → List ℕ) (xs : List X) (i : ℕ) (x : X) → i < length xs → x ≡ get_or xs i x
+    → length (flat_map f (take i xs)) + length (f x) ≤ length (flat_map f xs)
+next_within f xs i x lt e = omega (arith, length-flat_map-take f xs i x lt, ap (λ y. length (f y)) e)
+
+-- a message of a repeated row is no longer than the row
+pub item_within : {X : Type 0} (s : Shape) (view : X → Value s) (n : ℕ) (xs ys : List X) (i : ℕ) (x : X) → xs ≡ ys → i < length xs → x ≡ get_or xs i x
+    → len_onto s 0 (view x) ≤ length (items_text n (map (spell s) (map view ys)))
+item_within {X} s view n xs ys i x same lt e =
+    let text : X → List ℕ = λ y. long_field n (spell s (view y)) in
+    omega (arith, next_within text xs i x lt e, long_len n (spell s (view x)), onto_len s 0 (view x), ap length (items_of n (spell s) view ys), ap (λ zs. length (flat_map text zs)) same)

@@ -1,10 +1,10 @@
 //! Messages of the schema.
-ghost use Rattle.std.specs.Prelude.{◌≡◌, ◌<◌, ◌≤◌, ◌^◌, length, true, OnOk};
+ghost use Rattle.std.specs.Prelude.{◌≡◌, ◌<◌, ◌≤◌, ◌^◌, ◌++◌, length, true, OnOk, OnErr};
 ghost use Rattle.schema.specs.Field.{bytes_of};
 ghost use Rattle.schema.specs.Fits.{is_lawful};
 ghost use Rattle.schema.specs.Merge.{take_field};
 ghost use Rattle.schema.specs.Shape.{Shape, Value, IsMessage, empty};
-ghost use Rattle.schema.specs.Spell.{spell_onto, len_onto};
+ghost use Rattle.schema.specs.Spell.{spell, spell_onto, len_onto};
 ghost use Rattle.pb_wire.specs.Answers.{Took, Begins};
 ghost use Rattle.pb_wire.specs.View.{payload_view, field_view};
 
@@ -19,8 +19,6 @@ pub trait Wire: Drop {
     ghost view: { Self → Value shape };
 
     ghost message: { IsMessage shape };
-
-    ghost lawful: { is_lawful shape ≡ true };
 
     /// The message without fields. It takes no memory.
     fn none(alloc: Global) -> Self
@@ -42,4 +40,29 @@ pub trait Wire: Drop {
         requires { len_onto shape 0 (view self.now) < 2 ^ 63 }
         ensures ok { OnOk result (out.new ≡ spell_onto shape out.old (view self.now)) }
         ensures grows { Begins out.old out.new };
+
+    /// The length of the canonical spelling. It takes no memory.
+    final fn written_len(&self) -> u64
+        requires { length (spell shape (view self.now)) < 2 ^ 63 }
+        ensures { result ≡ length (spell shape (view self.now)) }
+    {
+        self.rows_len()
+    }
+
+    /// Puts the canonical spelling at the end, all of it or nothing.
+    final fn write(&self, out: &mut Blob) -> Result<(), NoMemory>
+        requires { length (spell shape (view self.now)) < 2 ^ 63 }
+        ensures ok { OnOk result (out.new ≡ out.old ++ spell shape (view self.now)) }
+        ensures err { OnErr result (out.new ≡ out.old) }
+    {
+        let begin = out.len();
+        if let Err(stop) = self.put_rows(out) {
+            out.truncate(begin);
+            return Err(stop);
+        }
+        Ok(())
+    }
+
+    /// No two rows have one number, and each has one that a tag can hold.
+    ghost lawful: { is_lawful shape ≡ true };
 }
