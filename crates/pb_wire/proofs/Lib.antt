@@ -2,7 +2,10 @@ pub mod Varint
 pub mod Sizes
 pub mod Trace
 pub mod Merge
-pub mod Begins
+pub mod Rest
 pub mod Parts
-pub mod Rows
+pub mod Occurrences
 pub mod Eights
+pub mod Spelled
+pub mod Begins
+pub mod Rows

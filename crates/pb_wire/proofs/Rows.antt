@@ -1,115 +1,81 @@
--- A row of a message.
-use Rattle.std.proofs.Common.{◌≡◌, ℕ, zero, suc, ◌+◌, ◌-◌, ◌<◌, ◌≤◌, List, [], ◌∷◌, ◌++◌, length, Result, Ok, Err, refl, sym, ap, ◌∙◌, arith, append_assoc, Bor}
+-- The lengths of fields, and repeated fields element by element.
+use Rattle.std.proofs.Common.{rules, ◌≡◌, ℕ, zero, suc, ◌+◌, ◌*◌, ◌<◌, ◌≤◌, ◌^◌, Bool, true, false, List, [], ◌∷◌, ◌++◌, length, take, get_or, map, refl, sym, ap, ◌∙◌, inl, inr, arith, append_assoc, length-append}
+use Rattle.std.specs.Prelude.{◌==◌, if◌then◌else◌}
+use Rattle.std.specs.Int.{w64, to_le_bytes}
+use Rattle.std.specs.List.{flat_map}
 use Rattle.std.proofs.lemmas.List.{append-nil}
-use Rattle.schema.specs.Fault.{Reason, Fault, fault_at}
-use Rattle.schema.specs.Field.{Field, Long}
-use Rattle.schema.specs.Merge.{put_one, put_many, run, packed_upto, packed, put_packed, in_packed, packed_reason, at_place}
-use Rattle.schema.specs.Shape.{Shape, Number, Fixed, Bytes, Text, Any, Index, Unbuilt, End, One, Many, Format, NumberValue, Value, IsMessage, empty, number_from}
-use Rattle.schema.specs.Steps.{◌>>=◌, varint_at, trace}
-use Rattle.pb_wire.specs.declared.field.Payload.{Payload as CodePayload}
-use Rattle.pb_wire.specs.declared.field.Payload.TheVariants as payloads
-use Rattle.pb_wire.specs.View.{payload_view}
-use Rattle.pb_wire.proofs.Sizes.{Leaves, varint_leaves, number_size}
+use Rattle.std.proofs.lemmas.List.Folds.{flat_map-map, length-flat_map-take}
+use Rattle.std.proofs.lemmas.Grind.{take_at_read, flat_map-append}
+use Rattle.schema.specs.Shape.{Shape, Value, Format, NumberValue}
+use Rattle.schema.specs.Spell.{varint, spell, len_onto, number_to, long_field, bytes_field, numbers_text, items_text, fixed_text}
+use Rattle.pb_wire.proofs.Spelled.{onto_len}
 
-pub put_one_message : (s : Shape) (inside : ℕ → ℕ → Field → Value s → Result (Value s) Fault) (at end : ℕ) (b : List ℕ) (v : Value s) → IsMessage s
-    → put_one s inside at end (Long b) v ≡ run inside v (trace (end - length b) b)
-put_one_message (Number w) inside at end b v m = absurd m
-put_one_message Fixed inside at end b v m = absurd m
-put_one_message Bytes inside at end b v m = absurd m
-put_one_message Text inside at end b v m = absurd m
-put_one_message (Any depth) inside at end b v m = absurd m
-put_one_message (Index T entry) inside at end b v m = absurd m
-put_one_message (Unbuilt k) inside at end b v m = absurd m
-put_one_message End inside at end b v m = refl
-put_one_message (One n k rest) inside at end b v m = refl
-put_one_message (Many n k rest) inside at end b v m = refl
+-- bytes behind their length
+pub long_len : (n : ℕ) (b : List ℕ) → length (long_field n b) ≡ length (varint (n * 8 + 2)) + length (varint (length b)) + length b
+unfolding long_field
+long_len n b = omega (arith, length-append (varint (n * 8 + 2) ++ varint (length b)) b, length-append (varint (n * 8 + 2)) (varint (length b)))
 
-pub put_many_message : (s : Shape) (inside : ℕ → ℕ → Field → Value s → Result (Value s) Fault) (at end : ℕ) (b : List ℕ) (vs : List (Value s)) → IsMessage s
-    → put_many s inside at end (Long b) vs ≡ (run inside (empty s) (trace (end - length b) b) >>= λ v. Ok (vs ++ v ∷ []))
-put_many_message (Number w) inside at end b v m = absurd m
-put_many_message Fixed inside at end b v m = absurd m
-put_many_message Bytes inside at end b v m = absurd m
-put_many_message Text inside at end b v m = absurd m
-put_many_message (Any depth) inside at end b v m = absurd m
-put_many_message (Index T entry) inside at end b v m = absurd m
-put_many_message (Unbuilt k) inside at end b v m = absurd m
-put_many_message End inside at end b v m = refl
-put_many_message (One n k rest) inside at end b v m = refl
-put_many_message (Many n k rest) inside at end b v m = refl
+-- the same, where the length has another name
+pub long_len_at : (n len : ℕ) (b : List ℕ) → len ≡ length b → length (long_field n b) ≡ length (varint (n * 8 + 2)) + length (varint len) + len
+long_len_at n len b e = long_len n b ∙ ap (λ (m : ℕ). length (varint (n * 8 + 2)) + length (varint m) + m) (sym e)
 
-pub put_one_other : (s : Shape) (inside : ℕ → ℕ → Field → Value s → Result (Value s) Fault) (at end : ℕ) (p : CodePayload) (v : Value s) → IsMessage s
-    → ((x : Bor (List ℕ)) → p ≡ payloads.Bytes x → ⊥) → put_one s inside at end (payload_view p) v ≡ Ok v
-put_one_other (Number w) inside at end p v m h = absurd m
-put_one_other Fixed inside at end p v m h = absurd m
-put_one_other Bytes inside at end p v m h = absurd m
-put_one_other Text inside at end p v m h = absurd m
-put_one_other (Any depth) inside at end p v m h = absurd m
-put_one_other (Index T entry) inside at end p v m h = absurd m
-put_one_other (Unbuilt k) inside at end p v m h = absurd m
-put_one_other s inside at end (payloads.Bytes b) v m h = absurd (h b refl)
-put_one_other End inside at end p v m h = refl
-put_one_other (One n k rest) inside at end p v m h = refl
-put_one_other (Many n k rest) inside at end p v m h = refl
+-- a tag, a length and bytes, behind what is put, are the field
+pub long_onto : (out : List ℕ) (n len : ℕ) (b : List ℕ) → len ≡ length b → ((out ++ varint (n * 8 + 2)) ++ varint len) ++ b ≡ out ++ long_field n b
+unfolding long_field
+long_onto out n len b e =
+    ap (λ (m : ℕ). ((out ++ varint (n * 8 + 2)) ++ varint m) ++ b) e ∙ simp append_assoc
 
-pub put_many_other : (s : Shape) (inside : ℕ → ℕ → Field → Value s → Result (Value s) Fault) (at end : ℕ) (p : CodePayload) (v : List (Value s)) → IsMessage s
-    → ((x : Bor (List ℕ)) → p ≡ payloads.Bytes x → ⊥) → put_many s inside at end (payload_view p) v ≡ Ok v
-put_many_other (Number w) inside at end p v m h = absurd m
-put_many_other Fixed inside at end p v m h = absurd m
-put_many_other Bytes inside at end p v m h = absurd m
-put_many_other Text inside at end p v m h = absurd m
-put_many_other (Any depth) inside at end p v m h = absurd m
-put_many_other (Index T entry) inside at end p v m h = absurd m
-put_many_other (Unbuilt k) inside at end p v m h = absurd m
-put_many_other s inside at end (payloads.Bytes b) v m h = absurd (h b refl)
-put_many_other End inside at end p v m h = refl
-put_many_other (One n k rest) inside at end p v m h = refl
-put_many_other (Many n k rest) inside at end p v m h = refl
+-- none are left out
+pub bytes_none : (n : ℕ) (b : List ℕ) → length b ≡ 0 → bytes_field n b ≡ []
+unfolding bytes_field
+bytes_none n [] e = refl
+bytes_none n (x ∷ b) e = absurd (omega (arith, e))
 
--- ---- packed numbers
+pub left_out : (out : List ℕ) (n : ℕ) (b : List ℕ) → length b ≡ 0 → out ≡ out ++ bytes_field n b
+left_out out n b e = sym (append-nil out) ∙ ap (λ (t : List ℕ). out ++ t) (sym (bytes_none n b e))
 
-packed_same : (w : Format) (m : ℕ) (r : Result (ℕ × List ℕ) Reason) (go other : List ℕ → Result (List (NumberValue w)) Reason) → Leaves number_size (suc m) r
-    → ((bytes : List ℕ) → length bytes ≤ m → go bytes ≡ other bytes)
-    → (in_packed r >>= λ n. go n.1 >>= λ ns. Ok (number_from w n.0 ∷ ns)) ≡ (in_packed r >>= λ n. other n.1 >>= λ ns. Ok (number_from w n.0 ∷ ns))
-packed_same w m (Ok n) go other h same = ap (λ (t : Result (List (NumberValue w)) Reason). t >>= λ ns. Ok (number_from w n.0 ∷ ns)) (same n.1 (omega arith))
-packed_same w m (Err e) go other h same = refl
+-- some are written
+pub bytes_some : (n : ℕ) (b : List ℕ) → 0 < length b → bytes_field n b ≡ long_field n b
+unfolding bytes_field
+bytes_some n [] lt = absurd (omega (arith, lt))
+bytes_some n (x ∷ b) lt = let t : (suc (length b) == 0) ≡ false = search rules in rw t refl
 
-enough : (w : Format) (k n : ℕ) (bytes : List ℕ) → length bytes ≤ k → length bytes ≤ n → packed_upto w k bytes ≡ packed_upto w n bytes
-unfolding packed_upto
-enough w zero zero bytes p q = refl
-enough w zero (suc n) [] p q = refl
-enough w zero (suc n) (b ∷ bytes) p q = absurd (omega arith)
-enough w (suc k) zero [] p q = refl
-enough w (suc k) zero (b ∷ bytes) p q = absurd (omega arith)
-enough w (suc k) (suc n) [] p q = refl
-enough w (suc k) (suc n) (b ∷ bytes) p q =
-    packed_same w (length bytes) (varint_at 9 (b ∷ bytes)) (packed_upto w k) (packed_upto w n) (varint_leaves 9 (b ∷ bytes))
-    (λ rest le. enough w k n rest (omega arith) (omega arith))
+-- bytes are no longer than their field
+pub bytes_within : (n : ℕ) (b : List ℕ) → length b ≤ length (bytes_field n b)
+bytes_within n [] = omega arith
+bytes_within n (x ∷ b) = omega (arith, ap length (bytes_some n (x ∷ b) (omega arith)), long_len n (x ∷ b))
 
-pub packed_is : (w : Format) (bytes : List ℕ) → 0 < length bytes → packed w bytes ≡ (in_packed (varint_at 9 bytes) >>= λ n. packed w n.1 >>= λ ns. Ok (number_from w n.0 ∷ ns))
-unfolding packed_upto
-packed_is w [] h = absurd (omega arith)
-packed_is w (b ∷ bytes) h =
-    packed_same w (length bytes) (varint_at 9 (b ∷ bytes)) (packed_upto w (length bytes)) (packed w) (varint_leaves 9 (b ∷ bytes))
-    (λ rest le. enough w (length bytes) (length rest) rest le (omega arith))
+-- elements that are seen by view and spelled
+pub items_of : {X Y : Type 0} (n : ℕ) (inner : Y → List ℕ) (view : X → Y) (xs : List X) → items_text n (map inner (map view xs)) ≡ flat_map (λ x. long_field n (inner (view x))) xs
+items_of n inner view [] = refl
+items_of n inner view (x ∷ xs) = ap (λ (t : List ℕ). long_field n (inner (view x)) ++ t) (items_of n inner view xs)
 
-regroup : (w : Format) (at : ℕ) (vs : List (NumberValue w)) (v : NumberValue w) (r : Result (List (NumberValue w)) Reason)
-    → (at_place at (r >>= λ ns. Ok (v ∷ ns)) >>= λ ns. Ok (vs ++ ns)) ≡ (at_place at r >>= λ ns. Ok ((vs ++ v ∷ []) ++ ns))
-regroup w at vs v (Ok ns) = ap (λ (t : List (NumberValue w)). Ok t) (sym (append_assoc vs (v ∷ []) ns))
-regroup w at vs v (Err e) = refl
+-- packed numbers that are seen by value
+pub numbers_of : {X : Type 0} (w : Format) (value : X → NumberValue w) (xs : List X) → numbers_text w (map value xs) ≡ flat_map (λ x. varint (number_to w (value x))) xs
+numbers_of w value xs = flat_map-map (λ v. varint (number_to w v)) value xs
 
-pub packed_goes_on : (w : Format) (at : ℕ) (bytes after : List ℕ) (n : ℕ) (vs : List (NumberValue w)) → 0 < length bytes → varint_at 9 bytes ≡ Ok (n, after)
-    → put_packed w at bytes vs ≡ put_packed w at after (vs ++ number_from w n ∷ [])
-packed_goes_on w at bytes after n vs some e =
-    let a : packed w bytes ≡ (packed w after >>= λ ns. Ok (number_from w n ∷ ns)) = packed_is w bytes some ∙ ap (λ (r : Result (ℕ × List ℕ) Reason). in_packed r >>= λ n. packed w n.1 >>= λ ns. Ok (number_from w n.0 ∷ ns)) e in
-    ap (λ (r : Result (List (NumberValue w)) Reason). at_place at r >>= λ ns. Ok (vs ++ ns)) a ∙ regroup w at vs (number_from w n) (packed w after)
+-- packed eight-byte values
+pub fixed_length : (vs : List ℕ) → length (fixed_text vs) ≡ 8 * length vs
+fixed_length [] = refl
+fixed_length (v ∷ vs) = omega (arith, length-append (to_le_bytes w64 v) (fixed_text vs), fixed_length vs)
 
-pub packed_fails : (w : Format) (at : ℕ) (bytes : List ℕ) (r : Reason) (vs : List (NumberValue w)) → 0 < length bytes → varint_at 9 bytes ≡ Err r
-    → put_packed w at bytes vs ≡ Err (fault_at at (packed_reason r))
-packed_fails w at bytes r vs some e =
-    let a : packed w bytes ≡ Err (packed_reason r) = packed_is w bytes some ∙ ap (λ (r : Result (ℕ × List ℕ) Reason). in_packed r >>= λ n. packed w n.1 >>= λ ns. Ok (number_from w n.0 ∷ ns)) e in
-    ap (λ (r : Result (List (NumberValue w)) Reason). at_place at r >>= λ ns. Ok (vs ++ ns)) a
+-- the text of the elements up to this one, and that its length is within that of all
+pub next_text : {X : Type 0} (f : X → List ℕ) (xs : List X) (i : ℕ) (x : X) → i < length xs → x ≡ get_or xs i x → flat_map f (take (i + 1) xs) ≡ flat_map f (take i xs) ++ f x
+next_text f xs i x lt e =
+    ap (flat_map f) ((take_at_read xs i x lt).1 ∙ ap (λ y. take i xs ++ y ∷ []) (sym e))
+    ∙ flat_map-append f (take i xs) (x ∷ []) ∙ ap (λ (t : List ℕ). flat_map f (take i xs) ++ t) (append-nil (f x))
 
-pub packed_ends : (w : Format) (at : ℕ) (bytes : List ℕ) (vs : List (NumberValue w)) → length bytes ≡ 0 → put_packed w at bytes vs ≡ Ok vs
-unfolding packed_upto
-packed_ends w at [] vs e = ap (λ (t : List (NumberValue w)). Ok t) (append-nil vs)
-packed_ends w at (b ∷ bytes) vs e = absurd (omega arith)
+pub next_length : {X : Type 0} (f : X → List ℕ) (xs : List X) (i : ℕ) (x : X) → i < length xs → x ≡ get_or xs i x
+    → length (flat_map f (take (i + 1) xs)) ≡ length (flat_map f (take i xs)) + length (f x)
+next_length f xs i x lt e = ap length (next_text f xs i x lt e) ∙ length-append (flat_map f (take i xs)) (f x)
+
+pub next_within : {X : Type 0} (f : X → List ℕ) (xs : List X) (i : ℕ) (x : X) → i < length xs → x ≡ get_or xs i x
+    → length (flat_map f (take i xs)) + length (f x) ≤ length (flat_map f xs)
+next_within f xs i x lt e = omega (arith, length-flat_map-take f xs i x lt, ap (λ y. length (f y)) e)
+
+-- a message of a repeated row is no longer than the row
+pub item_within : {X : Type 0} (s : Shape) (view : X → Value s) (n : ℕ) (xs ys : List X) (i : ℕ) (x : X) → xs ≡ ys → i < length xs → x ≡ get_or xs i x
+    → len_onto s 0 (view x) ≤ length (items_text n (map (spell s) (map view ys)))
+item_within {X} s view n xs ys i x same lt e =
+    let text : X → List ℕ = λ y. long_field n (spell s (view y)) in
+    omega (arith, next_within text xs i x lt e, long_len n (spell s (view x)), onto_len s 0 (view x), ap length (items_of n (spell s) view ys), ap (λ zs. length (flat_map text zs)) same)

@@ -4,10 +4,13 @@
 mod blob;
 mod fault;
 mod field;
+mod lengths;
 mod memory;
 mod next;
 mod number;
 mod pieces;
+mod put;
+mod put_rows;
 mod repeated;
 mod take;
 mod text;
@@ -16,14 +19,23 @@ mod wire;
 pub use blob::Blob;
 pub use fault::{ReadFault, Reason, WireFault};
 pub use field::{Field, Payload};
+pub use lengths::{
+    bytes_len, bytes_list_len, fixed_len, fixed_list_len, message_len, messages_len, number_len,
+    numbers_len, text_len, text_list_len,
+};
 pub use memory::NoMemory;
 pub use next::next_field;
 pub use number::Number;
 pub use pieces::{Piece, Pieces};
+pub use put::{put_field, put_varint, varint_len};
+pub use put_rows::{
+    put_bytes, put_bytes_list, put_fixed, put_fixed_list, put_message, put_messages, put_number,
+    put_numbers, put_text, put_text_list,
+};
 pub use repeated::Repeated;
 pub use take::{
-    RowType, add_bytes, add_fixed, add_message, add_number, add_text, refuse_many, refuse_one, take_bytes,
-    take_fixed, take_message, take_number, take_text,
+    RowType, add_bytes, add_fixed, add_message, add_number, add_text, refuse_many, refuse_one,
+    take_bytes, take_fixed, take_message, take_number, take_text,
 };
 pub use text::Text;
 pub use wire::Wire;

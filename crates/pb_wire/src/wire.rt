@@ -1,10 +1,10 @@
 //! Messages of the schema.
-ghost use Rattle.std.specs.Prelude.{◌≡◌, ◌+◌, ◌<◌, ◌≤◌, ◌^◌, length, true, OnOk};
+ghost use Rattle.std.specs.Prelude.{◌≡◌, ◌+◌, ◌<◌, ◌≤◌, ◌^◌, ◌++◌, length, true, OnOk, OnErr};
 ghost use Rattle.schema.specs.Field.{bytes_of};
 ghost use Rattle.schema.specs.Fits.{is_lawful};
 ghost use Rattle.schema.specs.Merge.{take_field, merge, merge_all};
 ghost use Rattle.schema.specs.Shape.{Shape, Value, IsMessage, empty};
-ghost use Rattle.schema.specs.Spell.{spell_onto, len_onto};
+ghost use Rattle.schema.specs.Spell.{spell, spell_onto, len_onto};
 ghost use Rattle.pb_wire.specs.Answers.{Took, Reads, Begins};
 ghost use Rattle.pb_wire.specs.View.{payload_view, field_view};
 
@@ -40,8 +40,10 @@ pub trait Wire: Drop {
         ensures ok { OnOk result (out.new ≡ spell_onto shape out.old (view self.now)) }
         ensures grows { Begins out.old out.new };
 
+    /// The shape is that of a message.
     ghost message: { IsMessage shape };
 
+    /// No two rows have one number, and each has one that a tag can hold.
     ghost lawful: { is_lawful shape ≡ true };
 
     /// Takes the fields of bytes that begin at the place `base` of the file, up to their first fault.
@@ -83,5 +85,29 @@ pub trait Wire: Drop {
             }
         }
         Ok(message)
+    }
+
+    /// The length of the canonical spelling. It takes no memory.
+    #[tactic(auto, using(crate::proofs::Spelled::onto_len))]
+    final fn written_len(&self) -> u64
+        requires { length (spell shape (view self.now)) < 2 ^ 63 }
+        ensures { result ≡ length (spell shape (view self.now)) }
+    {
+        self.rows_len()
+    }
+
+    /// Puts the canonical spelling at the end, all of it or nothing.
+    #[tactic(auto, using(crate::proofs::Spelled::onto_len, crate::proofs::Spelled::onto))]
+    final fn write(&self, out: &mut Blob) -> Result<(), NoMemory>
+        requires { length (spell shape (view self.now)) < 2 ^ 63 }
+        ensures ok { OnOk result (out.new ≡ out.old ++ spell shape (view self.now)) }
+        ensures err { OnErr result (out.new ≡ out.old) }
+    {
+        let begin = out.len();
+        if let Err(stop) = self.put_rows(out) {
+            out.truncate(begin);
+            return Err(stop);
+        }
+        Ok(())
     }
 }

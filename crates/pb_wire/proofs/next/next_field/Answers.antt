@@ -3,7 +3,7 @@ use Rattle.schema.specs.Field.{Field}
 use Rattle.schema.specs.Steps.{field_at}
 use Rattle.pb_wire.specs.View.{front_view}
 use Rattle.pb_wire.proofs.Merge.{size_of_field}
-use Rattle.pb_wire.proofs.Begins.{step_is}
+use Rattle.pb_wire.proofs.Rest.{step_is}
 use Rattle.pb_wire.proofs.next.next_field.Goals as goal
 
 pub overflow_sub-after : goal.overflow_sub-after

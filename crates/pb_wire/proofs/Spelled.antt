@@ -1,0 +1,74 @@
+-- What a program needs to know of the canonical spelling: its varints byte by byte, and its rows one after the other.
+use Rattle.std.proofs.Common.{◌≡◌, ℕ, zero, suc, ◌+◌, ◌*◌, ◌-◌, ◌/◌, ◌%◌, ◌^◌, ◌<◌, ◌≤◌, Bool, true, false, List, [], ◌∷◌, ◌++◌, length, refl, sym, ap, ◌∙◌, inl, inr, arith, pow-suc, append_assoc, length-append}
+use Rattle.std.specs.Prelude.{nat_lt, ◌⊎◌}
+use Rattle.std.proofs.lemmas.Bool.{cases_lt, lt-ltb, le-ltb}
+use Rattle.std.proofs.lemmas.List.{append-nil}
+use Rattle.schema.specs.Shape.{Shape, Number, Fixed, Bytes, Text, Any, Index, Unbuilt, End, One, Many, Value}
+use Rattle.schema.specs.Spell.{varint_upto, varint, spell, spell_one, spell_many, spell_onto, len_onto, long_field}
+
+-- steps beyond the number itself change nothing
+enough : (k m n : ℕ) → n ≤ k → n ≤ m → varint_upto k n ≡ varint_upto m n
+unfolding varint_upto
+enough zero zero n p q = refl
+enough zero (suc m) n p q = let t : nat_lt n 128 ≡ true = lt-ltb _ _ (omega arith) in rw t refl
+enough (suc k) zero n p q = let t : nat_lt n 128 ≡ true = lt-ltb _ _ (omega arith) in rw t refl
+enough (suc k) (suc m) n p q =
+    elim (cases_lt n 128) [
+      | inl lt ↦ let t : nat_lt n 128 ≡ true = lt-ltb _ _ lt in rw t refl
+      | inr le ↦ let t : nat_lt n 128 ≡ false = le-ltb _ _ le in rw t (ap (λ (r : List ℕ). (n % 128 + 128) ∷ r) (enough k m (n / 128) (omega arith) (omega arith)))
+    ]
+
+-- a number below 128 is its own varint
+pub varint_small : (n : ℕ) → n < 128 → varint n ≡ n ∷ []
+unfolding varint_upto
+varint_small zero lt = refl
+varint_small (suc n) lt = let t : nat_lt (suc n) 128 ≡ true = lt-ltb _ _ lt in rw t refl
+
+-- any other begins with its low seven bits
+pub varint_large : (n : ℕ) → 128 ≤ n → varint n ≡ (n % 128 + 128) ∷ varint (n / 128)
+unfolding varint_upto
+varint_large zero le = absurd (omega arith)
+varint_large (suc n) le =
+    let t : nat_lt (suc n) 128 ≡ false = le-ltb _ _ le in
+    rw t (ap (λ (r : List ℕ). (suc n % 128 + 128) ∷ r) (enough n (suc n / 128) (suc n / 128) (omega arith) (omega arith)))
+
+one_power : (k : ℕ) → 1 ≤ 128 ^ k
+one_power zero = omega arith
+one_power (suc k) = let p : 128 ^ suc k ≡ 128 ^ k * 128 = pow-suc 128 k in omega (arith, one_power k)
+
+-- its length, by the powers of 128 between which the number lies
+pub varint_length : (k n : ℕ) → 128 ^ k * 128 ≤ n → n < 128 ^ k * 128 * 128 → length (varint n) ≡ k + 2
+varint_length zero n le lt = omega (arith, ap length (varint_large n (omega arith)), ap length (varint_small (n / 128) (omega arith)))
+varint_length (suc k) n le lt =
+    let p : 128 ^ suc k ≡ 128 ^ k * 128 = pow-suc 128 k in
+    omega (arith, one_power k, ap length (varint_large n (omega (arith, one_power k))), varint_length k (n / 128) (omega arith) (omega arith))
+
+-- a byte that goes on, behind what is put, and the varint of the rest are the varint
+pub varint_onto : (out : List ℕ) (n : ℕ) → 128 ≤ n → (out ++ (n % 128 + 128) ∷ []) ++ varint (n / 128) ≡ out ++ varint n
+varint_onto out n le = append_assoc out ((n % 128 + 128) ∷ []) (varint (n / 128)) ∙ ap (λ (t : List ℕ). out ++ t) (sym (varint_large n le))
+
+-- the rows that are appended behind a text are the spelling
+pub onto : (s : Shape) (out : List ℕ) (v : Value s) → spell_onto s out v ≡ out ++ spell s v
+onto (Number w) out v = sym (append-nil out)
+onto Fixed out v = sym (append-nil out)
+onto Bytes out v = sym (append-nil out)
+onto Text out v = sym (append-nil out)
+onto (Any depth) out v = sym (append-nil out)
+onto (Index T entry) out v = sym (append-nil out)
+onto (Unbuilt k) out v = sym (append-nil out)
+onto End out v = sym (append-nil out)
+onto (One n k rest) out v = onto rest (out ++ spell_one k (spell k) n v.0) v.1 ∙ append_assoc out (spell_one k (spell k) n v.0) (spell rest v.1)
+onto (Many n k rest) out v = onto rest (out ++ spell_many k (spell k) n v.0) v.1 ∙ append_assoc out (spell_many k (spell k) n v.0) (spell rest v.1)
+
+-- and their lengths are its length
+pub onto_len : (s : Shape) (len : ℕ) (v : Value s) → len_onto s len v ≡ len + length (spell s v)
+onto_len (Number w) len v = omega arith
+onto_len Fixed len v = omega arith
+onto_len Bytes len v = omega arith
+onto_len Text len v = omega arith
+onto_len (Any depth) len v = omega arith
+onto_len (Index T entry) len v = omega arith
+onto_len (Unbuilt k) len v = omega arith
+onto_len End len v = omega arith
+onto_len (One n k rest) len v = onto_len rest (len + length (spell_one k (spell k) n v.0)) v.1 ∙ omega (arith, length-append (spell_one k (spell k) n v.0) (spell rest v.1))
+onto_len (Many n k rest) len v = onto_len rest (len + length (spell_many k (spell k) n v.0)) v.1 ∙ omega (arith, length-append (spell_many k (spell k) n v.0) (spell rest v.1))

@@ -1,0 +1,8 @@
+use Rattle.std.proofs.Common.{◌≡◌, ◌++◌, take}
+use Rattle.schema.specs.Spell.{fixed_text}
+use Rattle.pb_wire.specs.Answers.{Begins}
+use Rattle.pb_wire.proofs.put_rows.push_eights.Given as goal
+
+-- the bytes of the numbers so far stand behind what was there
+abbrev pub invariant-loop-item : goal.invariant-loop-item
+invariant-loop-item l = (l.out ≡ l.initial.out ++ fixed_text (take l.item-index l.items)) × Begins l.initial.out l.out

@@ -1,0 +1,9 @@
+use Rattle.std.proofs.Common.{◌≡◌, ◌++◌, take}
+use Rattle.std.specs.List.{flat_map}
+use Rattle.schema.specs.Spell.{varint, number_to}
+use Rattle.pb_wire.specs.Answers.{Begins}
+use Rattle.pb_wire.proofs.put_rows.push_packed.Given as goal
+
+-- the varints of the numbers so far stand behind what was there
+abbrev pub invariant-loop-item : goal.invariant-loop-item
+invariant-loop-item g l = (l.out ≡ l.initial.out ++ flat_map (λ x. varint (number_to g.N.Number.format (g.N.Number.value x))) (take l.item-index l.items)) × Begins l.initial.out l.out

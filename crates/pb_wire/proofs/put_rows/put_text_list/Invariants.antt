@@ -1,0 +1,8 @@
+use Rattle.std.proofs.Common.{◌≡◌, ◌++◌, take}
+use Rattle.schema.specs.Spell.{items_text}
+use Rattle.pb_wire.specs.Answers.{Begins}
+use Rattle.pb_wire.proofs.put_rows.put_text_list.Given as goal
+
+-- the elements so far stand behind what was there
+abbrev pub invariant-loop-item : goal.invariant-loop-item
+invariant-loop-item l = (l.out ≡ l.initial.out ++ items_text l.number (take l.item-index l.item-items)) × Begins l.initial.out l.out

@@ -1,0 +1,219 @@
+//! Writing the rows of a message. After want of memory a part of the row may stand at the end of `out`.
+ghost use Rattle.std.specs.Prelude.{◌≡◌, ◌+◌, ◌*◌, ◌<◌, ◌≤◌, ◌^◌, ◌++◌, length, map, OnOk, OnErr};
+ghost use Rattle.schema.specs.Spell.{varint, len_onto, number_to, number_field, fixed_field, long_field, bytes_field, numbers_text, fixed_text, items_text, spell};
+ghost use Rattle.pb_wire.specs.Answers.{Begins};
+
+use crate::lengths::packed_len;
+use crate::put::{push_long, push_varint};
+use crate::{Blob, NoMemory, Number, Repeated, Text, Wire};
+
+/// Puts a number that is not 0.
+#[inline]
+#[tactic(auto, using(crate::proofs::Begins::growing), unfolding(schema::specs::Spell::number_field))]
+pub fn put_number<N: Number>(out: &mut Blob, number: u32, value: N) -> Result<(), NoMemory>
+    requires { number < 2 ^ 29 }
+    ensures ok { OnOk result (out.new ≡ out.old ++ number_field number (number_to N.format (N.value value))) }
+    ensures grows { Begins out.old out.new }
+{
+    let value = value.to_varint();
+    if value == 0 {
+        return Ok(());
+    }
+    push_varint(out, number as u64 * 8)?;
+    push_varint(out, value)?;
+    Ok(())
+}
+
+/// Puts eight bytes, the low ones first, of a number that is not 0.
+#[inline]
+#[tactic(auto, using(crate::proofs::Begins::growing), unfolding(schema::specs::Spell::fixed_field))]
+pub fn put_fixed(out: &mut Blob, number: u32, value: u64) -> Result<(), NoMemory>
+    requires { number < 2 ^ 29 }
+    ensures ok { OnOk result (out.new ≡ out.old ++ fixed_field number value) }
+    ensures grows { Begins out.old out.new }
+{
+    if value == 0 {
+        return Ok(());
+    }
+    push_varint(out, number as u64 * 8 + 1)?;
+    out.append(&value.to_le_bytes())?;
+    Ok(())
+}
+
+/// Puts bytes that are not empty.
+#[inline]
+#[tactic(auto, using(crate::proofs::Begins::growing), unfolding(schema::specs::Spell::bytes_field))]
+fn put_slice(out: &mut Blob, number: u32, bytes: &[u8]) -> Result<(), NoMemory>
+    requires { number < 2 ^ 29 }
+    ensures ok { OnOk result (out.new ≡ out.old ++ bytes_field number bytes.now) }
+    ensures grows { Begins out.old out.new }
+{
+    if bytes.is_empty() {
+        return Ok(());
+    }
+    push_long(out, number, bytes)?;
+    Ok(())
+}
+
+/// Puts bytes that are not empty.
+#[inline]
+pub fn put_bytes(out: &mut Blob, number: u32, bytes: &Blob) -> Result<(), NoMemory>
+    requires { number < 2 ^ 29 }
+    ensures ok { OnOk result (out.new ≡ out.old ++ bytes_field number bytes.now) }
+    ensures grows { Begins out.old out.new }
+{
+    put_slice(out, number, bytes.as_slice())?;
+    Ok(())
+}
+
+/// Puts a text that is not empty.
+#[inline]
+pub fn put_text(out: &mut Blob, number: u32, text: &Text) -> Result<(), NoMemory>
+    requires { number < 2 ^ 29 }
+    ensures ok { OnOk result (out.new ≡ out.old ++ bytes_field number text.now) }
+    ensures grows { Begins out.old out.new }
+{
+    put_slice(out, number, text.as_bytes())?;
+    Ok(())
+}
+
+/// Puts each element behind its own tag and length, also an empty one.
+#[tactic(auto, using(crate::proofs::Begins::growing))]
+pub fn put_bytes_list(out: &mut Blob, number: u32, items: &Repeated<Blob>) -> Result<(), NoMemory>
+    requires { number < 2 ^ 29 }
+    ensures ok { OnOk result (out.new ≡ out.old ++ items_text number items.now) }
+    ensures grows { Begins out.old out.new }
+{
+    for item in items.as_slice() {
+        if let Err(stop) = push_long(out, number, item.as_slice()) {
+            return Err(stop);
+        }
+    }
+    Ok(())
+}
+
+/// Puts each element behind its own tag and length, also an empty one.
+#[tactic(auto, using(crate::proofs::Begins::growing))]
+pub fn put_text_list(out: &mut Blob, number: u32, items: &Repeated<Text>) -> Result<(), NoMemory>
+    requires { number < 2 ^ 29 }
+    ensures ok { OnOk result (out.new ≡ out.old ++ items_text number items.now) }
+    ensures grows { Begins out.old out.new }
+{
+    for item in items.as_slice() {
+        if let Err(stop) = push_long(out, number, item.as_bytes()) {
+            return Err(stop);
+        }
+    }
+    Ok(())
+}
+
+/// Puts a message, whose length is known, behind its tag and length.
+#[tactic(auto, using(crate::proofs::Begins::growing, crate::proofs::Rows::long_onto, crate::proofs::Spelled::onto, crate::proofs::Spelled::onto_len))]
+fn push_message<T: Wire>(out: &mut Blob, number: u32, len: u64, message: &T) -> Result<(), NoMemory>
+    requires below { number < 2 ^ 29 }
+    requires same { len ≡ len_onto T.shape 0 (T.view message.now) }
+    requires room { len < 2 ^ 63 }
+    ensures ok { OnOk result (out.new ≡ out.old ++ long_field number (spell T.shape (T.view message.now))) }
+    ensures grows { Begins out.old out.new }
+{
+    push_varint(out, number as u64 * 8 + 2)?;
+    push_varint(out, len)?;
+    message.put_rows(out)?;
+    Ok(())
+}
+
+/// Puts a message that is not empty.
+#[tactic(auto, using(crate::proofs::Begins::growing, crate::proofs::Rows::bytes_within, crate::proofs::Rows::left_out, crate::proofs::Rows::bytes_some, crate::proofs::Spelled::onto_len))]
+pub fn put_message<T: Wire>(out: &mut Blob, number: u32, message: &T) -> Result<(), NoMemory>
+    requires below { number < 2 ^ 29 }
+    requires room { length (bytes_field number (spell T.shape (T.view message.now))) < 2 ^ 63 }
+    ensures ok { OnOk result (out.new ≡ out.old ++ bytes_field number (spell T.shape (T.view message.now))) }
+    ensures grows { Begins out.old out.new }
+{
+    let len = message.rows_len();
+    if len == 0 {
+        return Ok(());
+    }
+    push_message(out, number, len, message)?;
+    Ok(())
+}
+
+/// Puts each message behind its own tag and length, also an empty one.
+#[tactic(auto, using(crate::proofs::Begins::growing))]
+pub fn put_messages<T: Wire>(out: &mut Blob, number: u32, items: &Repeated<T>) -> Result<(), NoMemory>
+    requires below { number < 2 ^ 29 }
+    requires room { length (items_text number (map (spell T.shape) (map T.view items.now))) < 2 ^ 63 }
+    ensures ok { OnOk result (out.new ≡ out.old ++ items_text number (map (spell T.shape) (map T.view items.now))) }
+    ensures grows { Begins out.old out.new }
+{
+    for item in items.as_slice() {
+        if let Err(stop) = push_message(out, number, item.rows_len(), item) {
+            return Err(stop);
+        }
+    }
+    Ok(())
+}
+
+/// Puts the varints of numbers.
+#[tactic(auto, using(crate::proofs::Begins::growing))]
+fn push_packed<N: Number>(out: &mut Blob, items: &[N]) -> Result<(), NoMemory>
+    ensures ok { OnOk result (out.new ≡ out.old ++ numbers_text N.format (map N.value items.now)) }
+    ensures grows { Begins out.old out.new }
+{
+    for item in items {
+        if let Err(stop) = push_varint(out, item.to_varint()) {
+            return Err(stop);
+        }
+    }
+    Ok(())
+}
+
+/// Puts numbers, unless there are none, packed behind one tag and length.
+#[tactic(auto, using(crate::proofs::Begins::growing, crate::proofs::Rows::long_onto, crate::proofs::Rows::bytes_within, crate::proofs::Rows::left_out, crate::proofs::Rows::bytes_some))]
+pub fn put_numbers<N: Number>(out: &mut Blob, number: u32, items: &Repeated<N>) -> Result<(), NoMemory>
+    requires below { number < 2 ^ 29 }
+    requires room { length (bytes_field number (numbers_text N.format (map N.value items.now))) < 2 ^ 63 }
+    ensures ok { OnOk result (out.new ≡ out.old ++ bytes_field number (numbers_text N.format (map N.value items.now))) }
+    ensures grows { Begins out.old out.new }
+{
+    let items = items.as_slice();
+    let len = packed_len(items);
+    if len == 0 {
+        return Ok(());
+    }
+    push_varint(out, number as u64 * 8 + 2)?;
+    push_varint(out, len)?;
+    push_packed(out, items)?;
+    Ok(())
+}
+
+/// Puts eight bytes for each number, the low ones first.
+#[tactic(auto, using(crate::proofs::Begins::growing))]
+fn push_eights(out: &mut Blob, items: &[u64]) -> Result<(), NoMemory>
+    ensures ok { OnOk result (out.new ≡ out.old ++ fixed_text items.now) }
+    ensures grows { Begins out.old out.new }
+{
+    for item in items {
+        if let Err(stop) = out.append(&item.to_le_bytes()) {
+            return Err(stop);
+        }
+    }
+    Ok(())
+}
+
+/// Puts eight-byte values, unless there are none, packed behind one tag and length.
+#[tactic(auto, using(crate::proofs::Begins::growing, crate::proofs::Rows::long_onto, crate::proofs::Rows::bytes_within, crate::proofs::Rows::left_out, crate::proofs::Rows::bytes_some, crate::proofs::Rows::fixed_length))]
+pub fn put_fixed_list(out: &mut Blob, number: u32, items: &Repeated<u64>) -> Result<(), NoMemory>
+    requires below { number < 2 ^ 29 }
+    requires room { length (bytes_field number (fixed_text items.now)) < 2 ^ 63 }
+    ensures ok { OnOk result (out.new ≡ out.old ++ bytes_field number (fixed_text items.now)) }
+    ensures grows { Begins out.old out.new }
+{
+    if items.is_empty() {
+        return Ok(());
+    }
+    push_varint(out, number as u64 * 8 + 2)?;
+    push_varint(out, items.len() as u64 * 8)?;
+    push_eights(out, items.as_slice())?;
+    Ok(())
+}
