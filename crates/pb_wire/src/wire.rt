@@ -20,6 +20,8 @@ pub trait Wire: Drop {
 
     ghost message: { IsMessage shape };
 
+    ghost lawful: { is_lawful shape ≡ true };
+
     /// The message without fields. It takes no memory.
     fn none(alloc: Global) -> Self
         ensures { view result ≡ empty shape };
@@ -42,6 +44,7 @@ pub trait Wire: Drop {
         ensures grows { Begins out.old out.new };
 
     /// The length of the canonical spelling. It takes no memory.
+    #[tactic(auto, using(crate::proofs::Spelled::onto_len))]
     final fn written_len(&self) -> u64
         requires { length (spell shape (view self.now)) < 2 ^ 63 }
         ensures { result ≡ length (spell shape (view self.now)) }
@@ -50,6 +53,7 @@ pub trait Wire: Drop {
     }
 
     /// Puts the canonical spelling at the end, all of it or nothing.
+    #[tactic(auto, using(crate::proofs::Spelled::onto_len, crate::proofs::Spelled::onto))]
     final fn write(&self, out: &mut Blob) -> Result<(), NoMemory>
         requires { length (spell shape (view self.now)) < 2 ^ 63 }
         ensures ok { OnOk result (out.new ≡ out.old ++ spell shape (view self.now)) }
@@ -62,7 +66,4 @@ pub trait Wire: Drop {
         }
         Ok(())
     }
-
-    /// No two rows have one number, and each has one that a tag can hold.
-    ghost lawful: { is_lawful shape ≡ true };
 }
