@@ -53,7 +53,6 @@ pub(crate) fn push_varint(out: &mut Blob, value: u64) -> Result<(), NoMemory>
 }
 
 /// Puts the shortest varint at the end, all of it or nothing.
-#[tactic(auto, using(crate::proofs::Begins::cut_back))]
 pub fn put_varint(out: &mut Blob, value: u64) -> Result<(), NoMemory>
     ensures ok { OnOk result (out.new ≡ out.old ++ varint value) }
     ensures err { OnErr result (out.new ≡ out.old) }
@@ -107,7 +106,6 @@ fn push_field(out: &mut Blob, number: u32, payload: &Payload<'_>) -> Result<(), 
 }
 
 /// Puts a field at the end, all of it or nothing. Its number is at least 1 and at most 536,870,911.
-#[tactic(auto, using(crate::proofs::Begins::cut_back))]
 pub fn put_field(out: &mut Blob, number: u32, payload: &Payload<'_>) -> Result<(), NoMemory>
     requires above { 1 ≤ number }
     requires below { number ≤ 536870911 }
