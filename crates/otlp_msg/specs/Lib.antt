@@ -2,3 +2,4 @@ pub mod Views
 pub mod Texts
 pub mod Message
 pub mod Checked
+pub mod Refusals

@@ -32,11 +32,11 @@ strings_of d = d.1.1.1.1.0
 
 -- the profiles of all scopes
 abbrev pub profiles_in_scopes : List (Value scope_profiles) → ℕ
-profiles_in_scopes scopes = sum_by (λ scope. length scope.1.0) scopes
+profiles_in_scopes scopes = sum_by (λ s. length s.1.0) scopes
 
 -- the profiles of all resources
 abbrev pub profiles_of : Message → ℕ
-profiles_of m = sum_by (λ record. profiles_in_scopes record.1.0) (records_of m)
+profiles_of m = sum_by (λ r. profiles_in_scopes r.1.0) (records_of m)
 
 -- The first entry of a table that isn't empty is the zero value. Of the entries that are read only strings can be another.
 abbrev pub begins_with_zero : List (List ℕ) → Bool

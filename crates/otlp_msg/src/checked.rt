@@ -1,22 +1,32 @@
-//! Reading a message.
-ghost use Rattle.std.specs.Prelude.{◌≡◌, ◌<◌, ◌^◌, Ok, IfOk, IfErr, length};
-ghost use Rattle.schema.specs.Merge.{merge};
-ghost use Rattle.schema.specs.Messages.{envelope};
-ghost use Rattle.schema.specs.Shape.{empty};
-ghost use Rattle.otlp_msg.specs.Message.{IsRefusal, message_of};
+//! A message that was accepted.
+ghost use Rattle.std.specs.Prelude.{◌≡◌, Ok};
+ghost use Rattle.otlp_msg.specs.Message.{message_of};
 ghost use Rattle.otlp_msg.specs.Views.{message_view};
 
-use crate::{Message, Refusal, TableKind};
-use pb_wire::{ReadFault, Repeated, Text, Wire};
-use std::alloc::Global;
-
-/// The greatest number of bytes of a message that is read or written.
-pub const MESSAGE_LIMIT: u64 = 33_554_432;
+use crate::Message;
 
 /// A message that was accepted, beside the bytes that it was read from.
 #[derive(Debug, Drop)]
 pub struct Checked<'a> {
-    body: &'a [u8],
-    message: Message,
+    pub(crate) body: &'a [u8],
+    pub(crate) message: Message,
     pub ghost read: { message_of body.now ≡ Ok (message_view message) },
+}
+
+impl<'a> Checked<'a> {
+    ghost use Rattle.otlp_msg.specs.Checked.{body_of, value_of};
+
+    /// The bytes that the message was read from. It takes no memory.
+    pub fn body(&self) -> &[u8]
+        ensures { result.now ≡ body_of self.now }
+    {
+        self.body
+    }
+
+    /// The message. It takes no memory.
+    pub fn message(&self) -> &Message
+        ensures { message_view result.now ≡ value_of self.now }
+    {
+        &self.message
+    }
 }

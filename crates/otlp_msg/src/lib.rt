@@ -2,6 +2,7 @@
 #![tactic(auto)]
 
 mod attribute;
+mod checked;
 mod dictionary;
 mod function;
 mod link;
@@ -9,11 +10,14 @@ mod location;
 mod mapping;
 mod message;
 mod profile;
+mod reading;
+mod refusal;
 mod resource_profiles;
 mod scope_profiles;
 mod stack;
 
 pub use attribute::Attr;
+pub use checked::Checked;
 pub use dictionary::{Dictionary, TableKind};
 pub use function::Function;
 pub use link::Link;
@@ -21,6 +25,8 @@ pub use location::Location;
 pub use mapping::Mapping;
 pub use message::Message;
 pub use profile::Profile;
+pub use reading::{MESSAGE_LIMIT, read_message};
+pub use refusal::Refusal;
 pub use resource_profiles::{ResourceList, ResourceProfiles};
 pub use scope_profiles::ScopeProfiles;
 pub use stack::Stack;

@@ -9,7 +9,9 @@ ghost use Rattle.pb_wire.specs.RowTypes.{shape_of, RefusesOne, RefusesMany};
 ghost use Rattle.pb_wire.specs.View.{payload_view, reason_view};
 
 use crate::next::varint;
-use crate::{Blob, Field, NoMemory, Number, Payload, ReadFault, Reason, Repeated, Text, Wire, WireFault};
+use crate::{
+    Blob, Field, NoMemory, Number, Payload, ReadFault, Reason, Repeated, Text, Wire, WireFault,
+};
 use std::alloc::Global;
 
 /// Takes a singular number: the last occurrence wins.

@@ -16,5 +16,5 @@ pub returns : goal.returns
 returns c =
     let few : length c.loop-front.rest.now < 8 = c.in_default.ensures.cases in
     let e : c.loop-front.slot ≡ c.args.slot.now ++ packed_fixed c.args.bytes.now =
-        sym (append-nil c.loop-front.slot) ∙ ap (λ (xs : List ℕ). c.loop-front.slot ++ xs) (sym (fixed_none c.loop-front.rest.now few)) ∙ c.loop-front.invariant.same in
+    sym (append-nil c.loop-front.slot) ∙ ap (λ (xs : List ℕ). c.loop-front.slot ++ xs) (sym (fixed_none c.loop-front.rest.now few)) ∙ c.loop-front.invariant.same in
     right_length c.args.at c.args.bytes.now c.args.slot.now c.loop-front.slot (omega arith) e
