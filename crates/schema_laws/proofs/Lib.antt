@@ -6,3 +6,6 @@ pub mod Front
 pub mod Fixed
 pub mod Lawful
 pub mod Back
+pub mod Numbers
+pub mod OneField
+pub mod Spelled

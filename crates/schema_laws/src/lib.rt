@@ -4,3 +4,6 @@
 
 /// Laws of the canonical spelling.
 pub mod spelling;
+
+/// Laws of fields: what is spelled and what is bad.
+pub mod fields;
