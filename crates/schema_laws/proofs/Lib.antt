@@ -9,3 +9,6 @@ pub mod Back
 pub mod Numbers
 pub mod OneField
 pub mod Spelled
+pub mod Packed
+pub mod StepFaults
+pub mod Agrees

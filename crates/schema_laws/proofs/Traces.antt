@@ -55,3 +55,9 @@ run_bad step s at bytes r some e =
 pub run_end : {S : Type 0} (step : ℕ → ℕ → Field → S → Result S Fault) (s : S) (at : ℕ) (bytes : List ℕ) → length bytes ≡ 0 → run step s (trace at bytes) ≡ Ok s
 unfolding run
 run_end step s at bytes e = ap (run step s) (trace_end at bytes e)
+
+-- the fields that a trace has met
+abbrev pub fields : Trace → List Field
+fields Done = []
+fields (Bad at reason) = []
+fields (Met at end f rest) = f ∷ fields rest
