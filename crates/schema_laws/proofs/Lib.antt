@@ -12,3 +12,4 @@ pub mod Spelled
 pub mod Packed
 pub mod StepFaults
 pub mod Agrees
+pub mod RowByRow
