@@ -13,3 +13,7 @@ pub mod Packed
 pub mod StepFaults
 pub mod Agrees
 pub mod RowByRow
+pub mod ReadValue
+pub mod Last
+pub mod Eights
+pub mod SameValue

@@ -109,6 +109,6 @@ one_spelling bytes (f ∷ fs) (g ∷ gs) a b =
     cc (same, ih)
 
 -- what spells two lists, one after the other, spells both
-pub joined : (x y : List ℕ) (fs gs : List Field) → Spells x fs → Spells y gs → Spells (x ++ y) (fs ++ gs)
-joined x y [] gs a b = subst (λ (z : List ℕ). Spells (z ++ y) gs) (sym a) b
-joined x y (f ∷ fs) gs a b = (a.0, a.1 ++ y, ap (λ (z : List ℕ). z ++ y) a.2 ∙ append_assoc a.0 a.1 y, a.3, joined a.1 y fs gs a.4 b)
+pub spells_append : (x y : List ℕ) (fs gs : List Field) → Spells x fs → Spells y gs → Spells (x ++ y) (fs ++ gs)
+spells_append x y [] gs a b = subst (λ (z : List ℕ). Spells (z ++ y) gs) (sym a) b
+spells_append x y (f ∷ fs) gs a b = (a.0, a.1 ++ y, ap (λ (z : List ℕ). z ++ y) a.2 ∙ append_assoc a.0 a.1 y, a.3, spells_append a.1 y fs gs a.4 b)
