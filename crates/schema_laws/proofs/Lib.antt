@@ -17,3 +17,4 @@ pub mod ReadValue
 pub mod Last
 pub mod Eights
 pub mod SameValue
+pub mod Parts

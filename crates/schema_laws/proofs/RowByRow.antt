@@ -234,7 +234,7 @@ many_step k law at end p ps u x e = fold_many (messages_of (value k (empty k))) 
 one_row : (n : ℕ) (k rest : Shape) → Law k → Step rest → (t : Bool) (at end : ℕ) (f : Field) (u v : Value k × Value rest) (fs : List Field)
     → cond t (put_one k (take_field k) at end f.payload u.0 >>= λ x. Ok (x, u.1)) (take_field rest at end f u.1 >>= λ x. Ok (u.0, x)) ≡ Ok v
     → (let a : Value k × Value rest = (one_value k (value k) (cond t (f.payload ∷ of_number n fs) (of_number n fs)) u.0, value rest u.1 (cond t (others n fs) (f ∷ others n fs))) in
-       let b : Value k × Value rest = (one_value k (value k) (of_number n fs) v.0, value rest v.1 (others n fs)) in a ≡ b)
+    let b : Value k × Value rest = (one_value k (value k) (of_number n fs) v.0, value rest v.1 (others n fs)) in a ≡ b)
 one_row n k rest law step true at end f u v fs e =
     let r = bind_ok (put_one k (take_field k) at end f.payload u.0) (λ x. Ok (x, u.1)) v e in
     let p = ok_is (r.0, u.1) v r.2 in
@@ -249,7 +249,7 @@ one_row n k rest law step false at end f u v fs e =
 many_row : (n : ℕ) (k rest : Shape) → Law k → Step rest → (t : Bool) (at end : ℕ) (f : Field) (u v : List (Value k) × Value rest) (fs : List Field)
     → cond t (put_many k (take_field k) at end f.payload u.0 >>= λ x. Ok (x, u.1)) (take_field rest at end f u.1 >>= λ x. Ok (u.0, x)) ≡ Ok v
     → (let a : List (Value k) × Value rest = (u.0 ++ many_value k (value k) (cond t (f.payload ∷ of_number n fs) (of_number n fs)), value rest u.1 (cond t (others n fs) (f ∷ others n fs))) in
-       let b : List (Value k) × Value rest = (v.0 ++ many_value k (value k) (of_number n fs), value rest v.1 (others n fs)) in a ≡ b)
+    let b : List (Value k) × Value rest = (v.0 ++ many_value k (value k) (of_number n fs), value rest v.1 (others n fs)) in a ≡ b)
 many_row n k rest law step true at end f u v fs e =
     let r = bind_ok (put_many k (take_field k) at end f.payload u.0) (λ x. Ok (x, u.1)) v e in
     let p = ok_is (r.0, u.1) v r.2 in

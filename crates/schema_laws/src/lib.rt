@@ -7,3 +7,6 @@ pub mod spelling;
 
 /// Laws of fields: what is spelled and what is bad.
 pub mod fields;
+
+/// Laws of values and faults: what is read of a message.
+pub mod reading;
