@@ -18,3 +18,6 @@ pub mod Last
 pub mod Eights
 pub mod SameValue
 pub mod Parts
+pub mod Lists
+pub mod Ranges
+pub mod Growth

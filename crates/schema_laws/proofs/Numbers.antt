@@ -11,7 +11,8 @@ shift : (p : ℕ) (bytes : List ℕ) → digits (suc p) bytes ≡ 128 * digits p
 shift p [] = refl
 shift p (b ∷ bytes) = omega (arith, shift (suc p) bytes, ap (λ (w : ℕ). b % 128 * w) (pow-suc 128 p))
 
-horner : (b : ℕ) (bytes : List ℕ) → digits 0 (b ∷ bytes) ≡ b % 128 + 128 * digits 0 bytes
+-- the low byte first
+pub horner : (b : ℕ) (bytes : List ℕ) → digits 0 (b ∷ bytes) ≡ b % 128 + 128 * digits 0 bytes
 horner b bytes = omega (arith, shift 0 bytes)
 
 read_upto : (k : ℕ) (front : List ℕ) (last : ℕ) (rest : List ℕ) → GoOn front → last < 128 → length front ≤ k → (length front ≡ k → last < 2)

@@ -13,20 +13,13 @@ use Rattle.schema_laws.proofs.Spelled.{spells_append}
 use Rattle.schema_laws.proofs.Agrees.{merge_err, merge_fault, merge_ok, merge_sound}
 use Rattle.schema_laws.proofs.RowByRow.{value, value_nil, ok_is, bind_ok}
 use Rattle.schema_laws.proofs.ReadValue.{value_then, value_from, sound_read}
-use Rattle.schema_laws.proofs.SameValue.{each_append, same}
+use Rattle.schema_laws.proofs.SameValue.{same}
+use Rattle.schema_laws.proofs.Lists.{each_append, each_left, each_right}
 
 -- what the parts spell is spelled by their joined bytes
 pub joined_spelled : (parts : List Part) (fs : List Field) → SpellsEach parts fs → Spells (joined parts) fs
 joined_spelled [] fs s = subst (Spells []) (sym s) refl
 joined_spelled (p ∷ ps) fs s = subst (Spells (joined (p ∷ ps))) (sym s.2) (spells_append p.bytes (joined ps) s.0 s.1 s.3 (joined_spelled ps s.1 s.4))
-
-each_left : {A : Type 0} (P : A → Type 0) (xs ys : List A) → Each P (xs ++ ys) → Each P xs
-each_left P [] ys h = tt
-each_left P (x ∷ xs) ys h = (h.0, each_left P xs ys h.1)
-
-each_right : {A : Type 0} (P : A → Type 0) (xs ys : List A) → Each P (xs ++ ys) → Each P ys
-each_right P [] ys h = h
-each_right P (x ∷ xs) ys h = each_right P xs ys h.1
 
 -- ---- values
 

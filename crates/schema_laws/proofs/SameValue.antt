@@ -13,6 +13,7 @@ use Rattle.schema.specs.Fits.{Each}
 use Rattle.schema.specs.Spelling.{Spells}
 use Rattle.schema.specs.FirstFault.{BadPacked, FieldFault, FirstFault, ManyFault, OneFault, Sound}
 use Rattle.schema.specs.Value.{BytesOf, Concats, FixedOf, HasValue, IsRead, ManyValue, MessagesOf, NumbersOf, OneValue, bytes_in, fixed_in, number_in, of_number, others}
+use Rattle.schema_laws.proofs.Lists.{each_append}
 use Rattle.schema_laws.proofs.Traces.{fields}
 use Rattle.schema_laws.proofs.Spelled.{one_spelling, spells_append}
 use Rattle.schema_laws.proofs.Packed.{packed_found, packed_right, one_numbers}
@@ -21,10 +22,6 @@ use Rattle.schema_laws.proofs.RowByRow.{inside, ok_or_none, numbers_of, fixed_of
 use Rattle.schema_laws.proofs.ReadValue.{fields_spelled, value_from, value_to}
 use Rattle.schema_laws.proofs.Last.{last_is, is_last}
 use Rattle.schema_laws.proofs.Eights.{eights_right, eights_read}
-
-pub each_append : {A : Type 0} (P : A → Type 0) (xs ys : List A) → Each P xs → Each P ys → Each P (xs ++ ys)
-each_append P [] ys a b = b
-each_append P (x ∷ xs) ys a b = (a.0, each_append P xs ys a.1 b)
 
 -- ---- what a sound field list says of the payloads of a row, and of the other fields
 
