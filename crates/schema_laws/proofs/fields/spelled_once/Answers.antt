@@ -1,0 +1,5 @@
+use Rattle.schema_laws.proofs.Spelled.{one_spelling}
+use Rattle.schema_laws.proofs.fields.spelled_once.Goals as goal
+
+pub returns : goal.returns
+returns c = one_spelling

@@ -1,0 +1,5 @@
+use Rattle.schema_laws.proofs.Back.{reads_back}
+use Rattle.schema_laws.proofs.spelling.reads_back.Goals as goal
+
+pub returns : goal.returns
+returns c = reads_back

@@ -1,0 +1,25 @@
+ghost use Rattle.std.specs.Prelude.{◌≡◌, ℕ, List, Ok, Err, ◌↔◌};
+ghost use Rattle.schema.specs.Fault.{Fault};
+ghost use Rattle.schema.specs.Field.{Field};
+ghost use Rattle.schema.specs.FirstFault.{HasFault, HasFaultInParts};
+ghost use Rattle.schema.specs.Merge.{Part, merge, merge_all};
+ghost use Rattle.schema.specs.Shape.{Shape, Value};
+ghost use Rattle.schema.specs.Spelling.{Spells};
+ghost use Rattle.schema.specs.Value.{IsRead, IsReadInParts, SpellsEach, joined};
+
+/// Reading fails exactly with the first fault of the bytes, whatever was read before.
+pub fn faults_are_found()
+    ensures { (s : Shape) → (u : Value s) → (base : ℕ) → (bytes : List ℕ) → (g : Fault) → (merge s u base bytes ≡ Err g) ↔ HasFault s base bytes g }
+{}
+
+/// Reading gives exactly the message value of the bytes, over what was read before.
+pub fn reads_the_value()
+    ensures { (s : Shape) → (u : Value s) → (v : Value s) → (base : ℕ) → (bytes : List ℕ) → (merge s u base bytes ≡ Ok v) ↔ IsRead s u bytes v }
+{}
+
+/// The parts of a singular message are read as its joined bytes are, except that each spells fields by itself.
+pub fn reads_parts()
+    ensures value { (s : Shape) → (u : Value s) → (v : Value s) → (parts : List Part) → (merge_all s u parts ≡ Ok v) ↔ IsReadInParts s u parts v }
+    ensures fault { (s : Shape) → (u : Value s) → (parts : List Part) → (g : Fault) → (merge_all s u parts ≡ Err g) ↔ HasFaultInParts s parts g }
+    ensures joined { (parts : List Part) → (fs : List Field) → SpellsEach parts fs → Spells (joined parts) fs }
+{}
