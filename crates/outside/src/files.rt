@@ -1,7 +1,8 @@
 //! Named files.
-ghost use Rattle.std.specs.Prelude.{◌≡◌, ℕ, Option, IfOk, IfSome, OnOk, IsErrOf};
+ghost use Rattle.std.specs.Prelude.{◌≡◌, ℕ, Option, None, IfOk, IfSome, OnOk, IsErrOf};
 ghost use Rattle.outside.specs.Causes.{Counted, NeverFails};
 ghost use Rattle.outside.specs.FileMap.{FileMap, got_of, IsWithin, written, SameBut};
+ghost use Rattle.outside.specs.Plan.{Plan, FollowsPlan};
 
 use crate::IoFault;
 use pb_wire::Blob;
@@ -28,13 +29,17 @@ pub trait Files {
     /// From here on no call fails.
     ghost sound: { Self → Type 0 };
 
+    /// Which calls are to fail, where it is told.
+    ghost plan: { Self → Option Plan } = { λ _. None };
+
     /// The bytes under a name, if there are at most `limit`. A missing name is no failure.
     fn read(&mut self, alloc: Global, name: &str, limit: u64) -> Result<Got, IoFault>
         ensures got { IfOk result (λ got. IfSome (told self.old) (λ m. got ≡ got_of m name.now limit)) }
         ensures within { IfOk result (IsWithin limit) }
         ensures same { told self.new ≡ told self.old }
         ensures cause { Counted (faults self.old) (faults self.new) result }
-        ensures sound { sound self.old → sound self.new × NeverFails result };
+        ensures sound { sound self.old → sound self.new × NeverFails result }
+        ensures planned { FollowsPlan (plan self.old) (plan self.new) (IsErrOf result IoFault.Failed) };
 
     /// Puts the bytes under the name, in the place of those that were there. After a failure nothing is told of the
     /// bytes under this name.
@@ -43,5 +48,6 @@ pub trait Files {
         ensures failed { IsErrOf result IoFault.Failed → SameBut name.now (told self.old) (told self.new) }
         ensures no_memory { IsErrOf result IoFault.NoMemory → told self.new ≡ told self.old }
         ensures cause { Counted (faults self.old) (faults self.new) result }
-        ensures sound { sound self.old → sound self.new × NeverFails result };
+        ensures sound { sound self.old → sound self.new × NeverFails result }
+        ensures planned { FollowsPlan (plan self.old) (plan self.new) (IsErrOf result IoFault.Failed) };
 }

@@ -23,6 +23,7 @@ impl MemFiles {
     pub fn begin(alloc: Global, failing: Vec<u64>) -> MemFiles
         ensures told { ⟦<MemFiles as Files>⟧.told result ≡ Some map.empty }
         ensures faults { ⟦<MemFiles as Files>⟧.faults result ≡ 0 }
+        ensures plan { ⟦<MemFiles as Files>⟧.plan result ≡ Some (failing.items, 0) }
         ensures sound { failing.items ≡ [] → ⟦<MemFiles as Files>⟧.sound result }
     {
         MemFiles {
@@ -38,6 +39,8 @@ impl Files for MemFiles {
     ghost faults = { λ f. f.failures.faults };
 
     ghost sound = { λ f. f.failures.numbers.items ≡ [] };
+
+    ghost plan = { λ f. Some (f.failures.numbers.items, f.failures.calls) };
 
     fn read(&mut self, alloc: Global, name: &str, limit: u64) -> Result<Got, IoFault> {
         if self.failures.strikes() {

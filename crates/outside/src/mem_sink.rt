@@ -16,6 +16,7 @@ impl MemSink {
     pub fn begin(alloc: Global, failing: Vec<u64>) -> MemSink
         ensures taken { ⟦<MemSink as Sink>⟧.taken result ≡ Some [] }
         ensures faults { ⟦<MemSink as Sink>⟧.faults result ≡ 0 }
+        ensures plan { ⟦<MemSink as Sink>⟧.plan result ≡ Some (failing.items, 0) }
         ensures sound { failing.items ≡ [] → ⟦<MemSink as Sink>⟧.sound result }
     {
         MemSink {
@@ -38,6 +39,8 @@ impl Sink for MemSink {
     ghost faults = { λ s. s.failures.faults };
 
     ghost sound = { λ s. s.failures.numbers.items ≡ [] };
+
+    ghost plan = { λ s. Some (s.failures.numbers.items, s.failures.calls) };
 
     fn write(&mut self, piece: &[u8]) -> Result<usize, IoFault> {
         if self.failures.strikes() {

@@ -18,6 +18,7 @@ impl MemSource {
     pub fn begin(bytes: Vec<u8>, failing: Vec<u64>) -> MemSource
         ensures left { ⟦<MemSource as Source>⟧.left result ≡ Some bytes.items }
         ensures faults { ⟦<MemSource as Source>⟧.faults result ≡ 0 }
+        ensures plan { ⟦<MemSource as Source>⟧.plan result ≡ Some (failing.items, 0) }
         ensures sound { failing.items ≡ [] → ⟦<MemSource as Source>⟧.sound result }
     {
         MemSource {
@@ -34,6 +35,8 @@ impl Source for MemSource {
     ghost faults = { λ s. s.failures.faults };
 
     ghost sound = { λ s. s.failures.numbers.items ≡ [] };
+
+    ghost plan = { λ s. Some (s.failures.numbers.items, s.failures.calls) };
 
     fn read(&mut self, into: &mut [u8]) -> Result<usize, Failed> {
         if self.failures.strikes() {

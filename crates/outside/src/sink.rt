@@ -1,7 +1,8 @@
 //! Where bytes are written.
-ghost use Rattle.std.specs.Prelude.{◌≡◌, ◌≤◌, ◌<◌, ℕ, List, Option, IfOk, OnOk, OnErr, take, length};
+ghost use Rattle.std.specs.Prelude.{◌≡◌, ◌≤◌, ◌<◌, ℕ, List, Option, None, IfOk, OnOk, OnErr, IsErrOf, take, length};
 ghost use Rattle.outside.specs.Causes.{Counted, NeverFails};
 ghost use Rattle.outside.specs.Told.{appended, TookPrefix};
+ghost use Rattle.outside.specs.Plan.{Plan, FollowsPlan};
 
 use crate::IoFault;
 
@@ -15,6 +16,9 @@ pub trait Sink {
     /// From here on no call fails.
     ghost sound: { Self → Type 0 };
 
+    /// Which calls are to fail, where it is told.
+    ghost plan: { Self → Option Plan } = { λ _. None };
+
     /// Takes bytes from the front of the piece, and answers how many: at least one, where there is one. After a failure
     /// or want of memory none was taken.
     fn write(&mut self, piece: &[u8]) -> Result<usize, IoFault>
@@ -23,7 +27,8 @@ pub trait Sink {
         ensures ok { IfOk result (λ n. taken self.new ≡ appended (taken self.old) (take n piece.now)) }
         ensures refused { OnErr result (taken self.new ≡ taken self.old) }
         ensures cause { Counted (faults self.old) (faults self.new) result }
-        ensures sound { sound self.old → sound self.new × NeverFails result };
+        ensures sound { sound self.old → sound self.new × NeverFails result }
+        ensures planned { FollowsPlan (plan self.old) (plan self.new) (IsErrOf result IoFault.Failed) };
 }
 
 /// Writes all of the text. After a failure or want of memory a part from its front was taken, but not all.
