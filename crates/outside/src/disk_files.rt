@@ -17,10 +17,18 @@ pub struct DiskFiles<'a, R: std::rt::Files> {
 }
 
 impl<'a, R: std::rt::Files> DiskFiles<'a, R> {
+    /// No call yet.
     pub fn begin(rt: &'a R) -> DiskFiles<'a, R>
         ensures { ⟦<DiskFiles<'a, R> as Files>⟧.faults result ≡ 0 }
     {
         DiskFiles { rt, faults: 0 }
+    }
+
+    /// How many calls have failed.
+    pub fn faults(&self) -> u64
+        ensures { result ≡ ⟦<DiskFiles<'a, R> as Files>⟧.faults self.now }
+    {
+        self.faults
     }
 }
 

@@ -27,3 +27,6 @@ pub use seeds::{FixedSeeds, Seeds};
 pub use sink::{Sink, put_all};
 pub use source::Source;
 pub use writer_sink::WriterSink;
+
+#[cfg(test)]
+mod tests;

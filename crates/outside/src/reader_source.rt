@@ -12,10 +12,18 @@ pub struct ReaderSource<R> {
 }
 
 impl<R: Read> ReaderSource<R> {
+    /// No call yet.
     pub fn begin(inner: R) -> ReaderSource<R>
         ensures { ⟦<ReaderSource<R> as Source>⟧.faults result ≡ 0 }
     {
         ReaderSource { inner, faults: 0 }
+    }
+
+    /// How many calls have failed.
+    pub fn faults(&self) -> u64
+        ensures { result ≡ ⟦<ReaderSource<R> as Source>⟧.faults self.now }
+    {
+        self.faults
     }
 }
 

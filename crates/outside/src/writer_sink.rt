@@ -2,7 +2,7 @@
 ghost use Rattle.std.specs.Prelude.{◌≡◌, None};
 
 use crate::{IoFault, Sink};
-use std::io::Write;
+use std::io::{ErrorKind, Write};
 
 /// Writes to a writer, such as standard output, and flushes nothing. It tells its count of faults and no more.
 #[derive(Drop)]
@@ -12,10 +12,18 @@ pub struct WriterSink<W> {
 }
 
 impl<W: Write> WriterSink<W> {
+    /// No call yet.
     pub fn begin(inner: W) -> WriterSink<W>
         ensures { ⟦<WriterSink<W> as Sink>⟧.faults result ≡ 0 }
     {
         WriterSink { inner, faults: 0 }
+    }
+
+    /// How many calls have failed.
+    pub fn faults(&self) -> u64
+        ensures { result ≡ ⟦<WriterSink<W> as Sink>⟧.faults self.now }
+    {
+        self.faults
     }
 }
 
@@ -32,6 +40,7 @@ impl<W: Write> Sink for WriterSink<W> {
         }
         match self.inner.write(piece) {
             Ok(count) if count > 0 => Ok(count),
+            Err(error) if error.kind() == ErrorKind::OutOfMemory => Err(IoFault::NoMemory),
             _ => {
                 self.faults = self.faults.saturating_add(1);
                 Err(IoFault::Failed)
