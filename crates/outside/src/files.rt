@@ -19,6 +19,7 @@ pub enum Got {
     Missing,
 }
 
+/// A map of names to bytes, such as a folder.
 pub trait Files {
     /// The map of names to bytes, where it is told.
     ghost told: { Self → Option FileMap };

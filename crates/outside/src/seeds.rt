@@ -5,10 +5,11 @@ ghost use Rattle.std.specs.Hash.BuildHasherDefault.{initial_hasher};
 use pb_wire::NoMemory;
 use std::hash::{BuildHasher, BuildHasherDefault, FoldHasher};
 
+/// Where hashers come from.
 pub trait Seeds {
     type H: BuildHasher + Drop;
 
-    /// A hasher, or want of memory. Nothing is told of its seed.
+    /// A hasher, or want of memory. Its seed is left open.
     fn hasher(&mut self) -> Result<Self::H, NoMemory>;
 }
 

@@ -6,6 +6,7 @@ ghost use Rattle.outside.specs.Plan.{Plan, FollowsPlan};
 
 use crate::IoFault;
 
+/// Something that takes bytes, such as standard output.
 pub trait Sink {
     /// The bytes taken, where they are told.
     ghost taken: { Self → Option (List ℕ) };
@@ -19,8 +20,8 @@ pub trait Sink {
     /// Which calls are to fail, where it is told.
     ghost plan: { Self → Option Plan } = { λ _. None };
 
-    /// Takes bytes from the front of the piece, and answers how many: at least one, where there is one. After a failure
-    /// or want of memory none was taken.
+    /// Takes bytes from the front of the piece, and answers how many: at least one where there is one, and 0 of an
+    /// empty piece. After a failure or want of memory none was taken.
     fn write(&mut self, piece: &[u8]) -> Result<usize, IoFault>
         ensures most { IfOk result (λ n. n ≤ length piece.now) }
         ensures some { IfOk result (λ n. 0 < length piece.now → 0 < n) }

@@ -6,6 +6,7 @@ ghost use Rattle.outside.specs.Plan.{Plan, FollowsPlan};
 
 use crate::Failed;
 
+/// Something that gives bytes to its end, such as a file or a connection.
 pub trait Source {
     /// The bytes left, where they are told.
     ghost left: { Self → Option (List ℕ) };
