@@ -1,0 +1,54 @@
+//! Named files.
+ghost use Rattle.std.specs.Prelude.{◌≡◌, ℕ, Option, None, IfOk, IfSome, OnOk, IsErrOf};
+ghost use Rattle.outside.specs.Causes.{Counted, NeverFails};
+ghost use Rattle.outside.specs.FileMap.{FileMap, got_of, IsWithin, written, SameBut};
+ghost use Rattle.outside.specs.Plan.{Plan, FollowsPlan};
+
+use crate::IoFault;
+use pb_wire::Blob;
+use std::alloc::Global;
+
+/// What a read with a limit found.
+#[derive(Debug, Drop)]
+pub enum Got {
+    /// All bytes of the file, at most the limit.
+    Whole(Blob),
+    /// The file has more bytes than the limit, so at least one more.
+    Long { at_least: u64 },
+    /// There is no such file.
+    Missing,
+}
+
+/// A map of names to bytes, such as a folder.
+pub trait Files {
+    /// The map of names to bytes, where it is told.
+    ghost told: { Self → Option FileMap };
+
+    /// How many calls have failed.
+    ghost faults: { Self → ℕ };
+
+    /// From here on no call fails.
+    ghost sound: { Self → Type 0 };
+
+    /// Which calls are to fail, where it is told.
+    ghost plan: { Self → Option Plan } = { λ _. None };
+
+    /// The bytes under a name, if there are at most `limit`. A missing name is no failure.
+    fn read(&mut self, alloc: Global, name: &str, limit: u64) -> Result<Got, IoFault>
+        ensures got { IfOk result (λ got. IfSome (told self.old) (λ m. got ≡ got_of m name.now limit)) }
+        ensures within { IfOk result (IsWithin limit) }
+        ensures same { told self.new ≡ told self.old }
+        ensures cause { Counted (faults self.old) (faults self.new) result }
+        ensures sound { sound self.old → sound self.new × NeverFails result }
+        ensures planned { FollowsPlan (plan self.old) (plan self.new) (IsErrOf result IoFault.Failed) };
+
+    /// Puts the bytes under the name, in the place of those that were there. After a failure nothing is told of the
+    /// bytes under this name.
+    fn write(&mut self, alloc: Global, name: &str, bytes: &[u8]) -> Result<(), IoFault>
+        ensures ok { OnOk result (told self.new ≡ written name.now bytes.now (told self.old)) }
+        ensures failed { IsErrOf result IoFault.Failed → SameBut name.now (told self.old) (told self.new) }
+        ensures no_memory { IsErrOf result IoFault.NoMemory → told self.new ≡ told self.old }
+        ensures cause { Counted (faults self.old) (faults self.new) result }
+        ensures sound { sound self.old → sound self.new × NeverFails result }
+        ensures planned { FollowsPlan (plan self.old) (plan self.new) (IsErrOf result IoFault.Failed) };
+}

@@ -1,0 +1,32 @@
+//! The outside of the programs: files, what is read, what is written and hashers, as traits. Each has an object in
+//! memory, which tells all that it holds, and an adapter over the system, which tells nothing.
+#![tactic(auto)]
+
+mod disk_files;
+mod failures;
+mod fault;
+mod files;
+mod mem_files;
+mod mem_sink;
+mod mem_source;
+mod reader_source;
+mod seeds;
+mod sink;
+mod source;
+mod writer_sink;
+
+pub use disk_files::DiskFiles;
+pub use failures::Failures;
+pub use fault::{Failed, IoFault};
+pub use files::{Files, Got};
+pub use mem_files::MemFiles;
+pub use mem_sink::MemSink;
+pub use mem_source::MemSource;
+pub use reader_source::ReaderSource;
+pub use seeds::{FixedSeeds, Seeds};
+pub use sink::{Sink, put_all};
+pub use source::Source;
+pub use writer_sink::WriterSink;
+
+#[cfg(test)]
+mod tests;

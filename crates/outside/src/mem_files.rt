@@ -1,0 +1,89 @@
+//! Files in memory.
+ghost use Rattle.std.specs.Prelude.{◌≡◌, [], Some, IfOk, IfErr};
+ghost use Rattle.outside.specs.FileMap.{found};
+ghost use Rattle.std.specs.FinMap as map;
+ghost use Rattle.std.specs.Option.{option_copied};
+ghost use Rattle.std.specs.Ordering.{nat_cmp};
+ghost use Rattle.std.specs.Cmp.Lexicographic.{slice_cmp};
+
+use crate::{Failures, Files, Got, IoFault};
+use pb_wire::{Blob, Text};
+use std::alloc::Global;
+use std::collections::VecDeque;
+
+/// All writes so far, the newest first.
+#[derive(Drop)]
+pub struct MemFiles {
+    writes: VecDeque<(Text, Blob)>,
+    failures: Failures,
+}
+
+impl MemFiles {
+    /// No files. The calls with these numbers, counted from 0 over reads and writes together, are to fail.
+    pub fn begin(alloc: Global, failing: Vec<u64>) -> MemFiles
+        ensures told { ⟦<MemFiles as Files>⟧.told result ≡ Some map.empty }
+        ensures faults { ⟦<MemFiles as Files>⟧.faults result ≡ 0 }
+        ensures plan { ⟦<MemFiles as Files>⟧.plan result ≡ Some (failing.items, 0) }
+        ensures sound { failing.items ≡ [] → ⟦<MemFiles as Files>⟧.sound result }
+    {
+        MemFiles {
+            writes: VecDeque::new(alloc),
+            failures: Failures::begin(failing),
+        }
+    }
+}
+
+impl Files for MemFiles {
+    ghost told = { λ f. Some (map.from_entries f.writes.items) };
+
+    ghost faults = { λ f. f.failures.faults };
+
+    ghost sound = { λ f. f.failures.numbers.items ≡ [] };
+
+    ghost plan = { λ f. Some (f.failures.numbers.items, f.failures.calls) };
+
+    fn read(&mut self, alloc: Global, name: &str, limit: u64) -> Result<Got, IoFault> {
+        if self.failures.strikes() {
+            return Err(IoFault::Failed);
+        }
+        match newest(&self.writes, name) {
+            Some(bytes) => got_within(alloc, bytes, limit),
+            None => Ok(Got::Missing),
+        }
+    }
+
+    fn write(&mut self, alloc: Global, name: &str, bytes: &[u8]) -> Result<(), IoFault> {
+        if self.failures.strikes() {
+            return Err(IoFault::Failed);
+        }
+        let name = Text::copy_of(alloc, name)?;
+        let bytes = Blob::copy_of(alloc, bytes)?;
+        self.writes.push_front((name, bytes))?;
+        Ok(())
+    }
+}
+
+// What a read with this limit finds of these bytes.
+fn got_within(alloc: Global, bytes: &Blob, limit: u64) -> Result<Got, IoFault>
+    ensures ok { IfOk result (λ got. got ≡ found (Some bytes.now) limit) }
+    ensures err { IfErr result (λ fault. fault ≡ IoFault.NoMemory) }
+{
+    if bytes.len() as u64 > limit {
+        return Ok(Got::Long {
+            at_least: limit + 1,
+        });
+    }
+    Ok(Got::Whole(Blob::copy_of(alloc, bytes.as_slice())?))
+}
+
+// The bytes of the newest write under this name.
+fn newest<'a>(writes: &'a VecDeque<(Text, Blob)>, name: &str) -> Option<&'a Blob>
+    ensures { option_copied result ≡ map.find (slice_cmp nat_cmp) name.now writes.now.items }
+{
+    for (held, bytes) in writes {
+        if name == held.as_str() {
+            return Some(bytes);
+        }
+    }
+    None
+}
