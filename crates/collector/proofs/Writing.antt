@@ -1,0 +1,50 @@
+-- Files written in order, and what a run leaves of its output.
+use Rattle.std.proofs.Common.{◌≡◌, ◌≤◌, ℕ, List, [], ◌∷◌, ◌++◌, ◌+◌, ◌<◌, inl, inr, length, take, drop, refl, sym, ap, ◌∙◌, get_or, Option, subst, add-one, arith}
+use Rattle.std.proofs.Math.Seq.{take-suc}
+use Rattle.std.proofs.lemmas.List.{drop_more}
+use Rattle.outside.specs.Causes.{Rose}
+use Rattle.outside.specs.FileMap.{FileMap, written, SameBut}
+use Rattle.collector.specs.declared.stop.Stop.{Stop}
+use Rattle.collector.specs.declared.stop.Stop.TheVariants.{Refused, Read, Write, NoMemory}
+use Rattle.collector.specs.Delivery.{put_files, FirstUntold, FailedAtFile, FileLeft, FilesLeft}
+
+abbrev Files : Type 0
+Files = List (List ℕ × List ℕ)
+
+-- files in two parts are put one part after the other
+put_files-append : (xs ys : Files) (o : Option FileMap) → put_files (xs ++ ys) o ≡ put_files ys (put_files xs o)
+put_files-append [] ys o = refl
+put_files-append (f ∷ fs) ys o = put_files-append fs ys (written f.0 f.1 o)
+
+-- the first files with one more
+one_more : (fs : Files) (i : ℕ) (f : List ℕ × List ℕ) → i < length fs → f ≡ get_or fs i f → take (i + 1) fs ≡ take i fs ++ f ∷ []
+one_more fs i f lt is = rw add-one (take-suc fs i f lt ∙ ap (λ (x : List ℕ × List ℕ). take i fs ++ x ∷ []) (sym is))
+
+-- one file more is written
+pub put_files_more : (fs : Files) (i : ℕ) (f : List ℕ × List ℕ) (o now new : Option FileMap) → i < length fs → f ≡ get_or fs i f
+    → now ≡ put_files (take i fs) o → new ≡ written f.0 f.1 now → new ≡ put_files (take (i + 1) fs) o
+put_files_more fs i f o now new lt is so_far step =
+    step
+    ∙ ap (written f.0 f.1) so_far
+    ∙ sym (put_files-append (take i fs) (f ∷ []) o)
+    ∙ ap (λ (l : Files). put_files l o) (sym (one_more fs i f lt is))
+
+-- the write of the file at i failed
+failed_at : (fs : Files) (i : ℕ) (f : List ℕ × List ℕ) (o now new : Option FileMap) (n n' n'' : ℕ) → i < length fs → f ≡ get_or fs i f
+    → now ≡ put_files (take i fs) o → n ≤ n' → SameBut f.0 now new × Rose n' n'' → FailedAtFile fs o new n n''
+failed_at fs i f o now new n n' n'' lt is so_far later (same, rose) = record {
+  done = i;
+  untold = subst (λ (l : Files). FirstUntold l (put_files (take i fs) o) new)
+      (sym (drop_more fs i f lt ∙ ap (λ (x : List ℕ × List ℕ). x ∷ drop (i + 1) fs) (sym is)))
+      (subst (λ (p : Option FileMap). SameBut f.0 p new) so_far same);
+  rose = omega arith;
+}
+
+-- what is left of the files where the one at i stops
+pub left_at : (fs : Files) (i : ℕ) (f : List ℕ × List ℕ) (o now new : Option FileMap) (n n' n'' : ℕ) (stop : Stop) → i < length fs → f ≡ get_or fs i f
+    → now ≡ put_files (take i fs) o → n ≤ n' → FileLeft f.0 now new n' n'' stop → FilesLeft fs o new n n'' stop
+left_at fs i f o now new n n' n'' (Refused refusal) lt is so_far later left = left
+left_at fs i f o now new n n' n'' (Read name) lt is so_far later left = left
+left_at fs i f o now new n n' n'' (Write name) lt is so_far later left = failed_at fs i f o now new n n' n'' lt is so_far later left
+left_at fs i f o now new n n' n'' NoMemory lt is so_far later (inl same) = inl (record { done = i; is = same ∙ so_far })
+left_at fs i f o now new n n' n'' NoMemory lt is so_far later (inr failed) = inr (failed_at fs i f o now new n n' n'' lt is so_far later failed)

@@ -1,0 +1,14 @@
+use Rattle.std.proofs.Common.{arith}
+use Rattle.collector.proofs.Writing.{put_files_more, left_at}
+use Rattle.collector.proofs.deliver.write_files.Goals as goal
+
+pub loop-name-preserved : goal.loop-name-preserved
+loop-name-preserved g c = record {
+  told = put_files_more _ _ _ _ _ _ c.loop-name-test.true c.loop-name-item.is c.loop-name.invariant.told c.in_default.ensures.ok;
+  sound = λ h. (c.in_default.ensures.sound (c.loop-name.invariant.sound h)).0;
+  later = omega (arith, c.in_default.ensures.later);
+}
+
+pub returns-in-Err-clause-left : goal.returns-in-Err-clause-left
+returns-in-Err-clause-left g c =
+    left_at _ _ _ _ _ _ _ _ _ _ c.loop-name-test.true c.loop-name-item.is c.loop-name.invariant.told c.loop-name.invariant.later c.in-Err.ensures.left

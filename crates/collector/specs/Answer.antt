@@ -1,0 +1,40 @@
+-- The answer of the tool.
+use Rattle.std.specs.Prelude.{ℕ, List, [], Result, Ok, Err}
+use Rattle.outside.specs.FileMap.{FileMap}
+use Rattle.collector.specs.declared.words.ToolPlan.{ToolPlan}
+use Rattle.collector.specs.declared.words.ToolPlan.TheVariants.{Canon}
+use Rattle.collector.specs.declared.words.WordRefusal.{WordRefusal}
+use Rattle.collector.specs.declared.output.Output.{Output}
+use Rattle.collector.specs.declared.stop.Stop.{Stop}
+use Rattle.collector.specs.Plan.{planned}
+use Rattle.collector.specs.Lines.{status_of, line_of, stop_of_words}
+use Rattle.collector.specs.CanonAnswer.{canon_answer}
+
+-- what a plan comes to; one line a command
+abbrev pub performed : ToolPlan → FileMap → Result Output Stop
+performed (Canon file target) m = canon_answer m file target
+
+-- what a plan, or the refusal of the words, comes to
+abbrev pub with_plan : Result ToolPlan WordRefusal → FileMap → Result Output Stop
+with_plan (Ok plan) m = performed plan m
+with_plan (Err refusal) m = Err (stop_of_words refusal)
+
+-- what the words come to over these files
+abbrev pub outcome : List (List ℕ) → FileMap → Result Output Stop
+outcome words m = with_plan (planned words) m
+
+-- a status, the files to write, the text on the standard output and the text on the standard error
+pub record Answer : Type 0 where
+  pub status : ℕ
+  pub files : List (List ℕ × List ℕ)
+  pub out : List ℕ
+  pub err : List ℕ
+
+-- the answer where an output was computed, or a run stopped
+abbrev pub answer_of : Result Output Stop → Answer
+answer_of (Ok output) = record { status = 0; files = output.files; out = output.lines; err = [] }
+answer_of (Err stop) = record { status = status_of stop; files = []; out = []; err = line_of stop }
+
+-- the answer to these words over these files
+abbrev pub answer : List (List ℕ) → FileMap → Answer
+answer words m = answer_of (outcome words m)

@@ -1,0 +1,31 @@
+-- The answer of `canon IN OUT`.
+use Rattle.std.specs.Prelude.{ℕ, List, Result, Ok, Err}
+use Rattle.outside.specs.FileMap.{FileMap}
+use Rattle.otlp_msg.specs.Message.{Message, message_of}
+use Rattle.collector.specs.declared.canonical.BuildFault.{BuildFault}
+use Rattle.collector.specs.declared.canonical.BuildFault.TheVariants as build
+use Rattle.collector.specs.declared.output.Output.{Output}
+use Rattle.collector.specs.declared.stop.ToolRefusal.TheVariants.{Limit}
+use Rattle.collector.specs.declared.stop.Stop.{Stop}
+use Rattle.collector.specs.declared.stop.Stop.TheVariants.{Refused, NoMemory}
+use Rattle.collector.specs.Canonical.{canon_of}
+use Rattle.collector.specs.Messages.{after, accepted, bytes_at}
+use Rattle.collector.specs.Outputs.{one_file}
+
+-- bytes that were built, or the stop at their size
+abbrev pub built : Result (List ℕ) BuildFault → Result (List ℕ) Stop
+built (Ok bytes) = Ok bytes
+built (Err (build.OutputLimit size)) = Err (Refused (Limit size))
+built (Err build.NoMemory) = Err NoMemory
+
+-- the canonical bytes of a message, as one file
+abbrev pub canon_file : List ℕ → Message → Result Output Stop
+canon_file target message = after (built (canon_of message)) (λ bytes. Ok (one_file target bytes))
+
+-- the same from the bytes of the file that holds the message
+abbrev pub canon_in : List ℕ → List ℕ → List ℕ → Result Output Stop
+canon_in file target bytes = after (accepted file (message_of bytes)) (canon_file target)
+
+-- the same from the file
+abbrev pub canon_answer : FileMap → List ℕ → List ℕ → Result Output Stop
+canon_answer m file target = after (bytes_at m file) (canon_in file target)

@@ -1,0 +1,128 @@
+-- What is written of an output, wholly or in part.
+use Rattle.std.specs.Prelude.{◌≡◌, ◌≢◌, ◌⊎◌, ℕ, List, [], ◌∷◌, take, drop, Option, Some, Result, Ok, Err}
+use Rattle.outside.specs.Causes.{Rose}
+use Rattle.outside.specs.FileMap.{FileMap, written, SameBut}
+use Rattle.outside.specs.Told.{appended, TookPrefix}
+use Rattle.collector.specs.declared.output.Output.{Output}
+use Rattle.collector.specs.declared.stop.Stop.{Stop}
+use Rattle.collector.specs.declared.stop.Stop.TheVariants.{Refused, Read, Write, NoMemory}
+
+-- what the files and `out` tell, and how often a call of each has failed
+pub record Seen : Type 0 where
+  pub told : Option FileMap
+  pub faults : ℕ
+  pub taken : Option (List ℕ)
+  pub out_faults : ℕ
+
+-- the same, in one line
+abbrev pub seen : Option FileMap → ℕ → Option (List ℕ) → ℕ → Seen
+seen told faults taken out_faults = record { told = told; faults = faults; taken = taken; out_faults = out_faults }
+
+-- the files put in order, where a map is told
+abbrev pub put_files : List (List ℕ × List ℕ) → Option FileMap → Option FileMap
+put_files [] told = told
+put_files (f ∷ fs) told = put_files fs (written f.0 f.1 told)
+
+-- the first of these files is untold, and every other name is as before
+abbrev pub FirstUntold : List (List ℕ × List ℕ) → Option FileMap → Option FileMap → Type 0
+FirstUntold [] old new = ⊥
+FirstUntold (f ∷ fs) old new = SameBut f.0 old new
+
+-- some of the first files are written, and nothing else
+pub record SomeWritten (files : List (List ℕ × List ℕ)) (old new : Option FileMap) : Type 0 where
+  pub done : ℕ
+  pub is : new ≡ put_files (take done files) old
+
+-- the write of one file failed, and the count rose: those before it are written, and its name alone is untold
+pub record FailedAtFile (files : List (List ℕ × List ℕ)) (old new : Option FileMap) (faults faults' : ℕ) : Type 0 where
+  pub done : ℕ
+  pub untold : FirstUntold (drop done files) (put_files (take done files) old) new
+  pub rose : Rose faults faults'
+
+-- all files are written, and `out` took a prefix of the lines
+pub record AllFiles (output : Output) (before now : Seen) : Type 0 where
+  pub files : now.told ≡ put_files output.files before.told
+  pub lines : TookPrefix output.lines before.taken now.taken
+
+-- nothing was written
+pub record Untouched (before now : Seen) : Type 0 where
+  pub told : now.told ≡ before.told
+  pub taken : now.taken ≡ before.taken
+
+-- A write of the output failed. Either it was that of a file, and `out` took nothing; or all files are written, and the
+-- count of `out` rose.
+abbrev pub WriteFailed : Output → Seen → Seen → Type 0
+WriteFailed output before now =
+    (FailedAtFile output.files before.told now.told before.faults now.faults × (now.taken ≡ before.taken))
+    ⊎ (AllFiles output before now × Rose before.out_faults now.out_faults)
+
+-- The output may be written in part. Either some of the first files are, the next is untold only where its write failed,
+-- and `out` took nothing; or all files are written, and `out` took a prefix of the lines.
+abbrev pub Partly : Output → Seen → Seen → Type 0
+Partly output before now =
+    ((SomeWritten output.files before.told now.told ⊎ FailedAtFile output.files before.told now.told before.faults now.faults)
+    × (now.taken ≡ before.taken))
+    ⊎ AllFiles output before now
+
+-- the output was written, over the files m
+abbrev pub Delivered : Result Output Stop → FileMap → Option FileMap → Option (List ℕ) → Option (List ℕ) → Type 0
+Delivered (Ok output) m told old new = (told ≡ put_files output.files (Some m)) × (new ≡ appended old output.lines)
+Delivered (Err stop) m told old new = ⊥
+
+-- there was an output, and a write of it failed
+abbrev pub FailedDelivery : Result Output Stop → Seen → Seen → Type 0
+FailedDelivery (Ok output) before now = WriteFailed output before now
+FailedDelivery (Err stop) before now = ⊥
+
+-- the output, where there was one, may be written in part
+abbrev pub PartDelivered : Result Output Stop → Seen → Seen → Type 0
+PartDelivered (Ok output) before now = Partly output before now
+PartDelivered (Err stop) before now = Untouched before now
+
+-- but for a failed write or want of memory, nothing was written
+abbrev pub Unchanged : Stop → Seen → Seen → Type 0
+Unchanged (Refused refusal) before now = Untouched before now
+Unchanged (Read name) before now = Untouched before now
+Unchanged (Write name) before now = Unit {0}
+Unchanged NoMemory before now = Unit {0}
+
+-- where the stop is a failed write, what it left
+abbrev pub LeftAtWrite : Result Output Stop → Seen → Seen → Stop → Type 0
+LeftAtWrite want before now (Refused refusal) = Unit {0}
+LeftAtWrite want before now (Read name) = Unit {0}
+LeftAtWrite want before now (Write name) = FailedDelivery want before now
+LeftAtWrite want before now NoMemory = Unit {0}
+
+-- what the write of one file left at its stop
+abbrev pub FileLeft : List ℕ → Option FileMap → Option FileMap → ℕ → ℕ → Stop → Type 0
+FileLeft name old new faults faults' (Refused refusal) = ⊥
+FileLeft name old new faults faults' (Read name') = ⊥
+FileLeft name old new faults faults' (Write name') = SameBut name old new × Rose faults faults'
+FileLeft name old new faults faults' NoMemory = (new ≡ old) ⊎ (SameBut name old new × Rose faults faults')
+
+-- what the write of files left at its stop
+abbrev pub FilesLeft : List (List ℕ × List ℕ) → Option FileMap → Option FileMap → ℕ → ℕ → Stop → Type 0
+FilesLeft files old new faults faults' (Refused refusal) = ⊥
+FilesLeft files old new faults faults' (Read name) = ⊥
+FilesLeft files old new faults faults' (Write name) = FailedAtFile files old new faults faults'
+FilesLeft files old new faults faults' NoMemory = SomeWritten files old new ⊎ FailedAtFile files old new faults faults'
+
+-- what the write of an output left at its stop
+abbrev pub OutputLeft : Output → Seen → Seen → Stop → Type 0
+OutputLeft output before now (Refused refusal) = ⊥
+OutputLeft output before now (Read name) = ⊥
+OutputLeft output before now (Write name) = WriteFailed output before now
+OutputLeft output before now NoMemory = Partly output before now
+
+-- the stop is a failed write, or want of memory
+abbrev pub IsOfWrite : Stop → Type 0
+IsOfWrite (Refused refusal) = ⊥
+IsOfWrite (Read name) = ⊥
+IsOfWrite (Write name) = Unit {0}
+IsOfWrite NoMemory = Unit {0}
+
+-- the status is of the answer: no fault and no want of memory
+pub record IsAnswered (status : ℕ) : Type 0 where
+  pub no_read_fault : status ≢ 6
+  pub memory : status ≢ 7
+  pub no_write_fault : status ≢ 8

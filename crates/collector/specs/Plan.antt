@@ -1,0 +1,36 @@
+-- What the words ask for.
+use Rattle.std.specs.Prelude.{◌≡◌, ℕ, Bool, List, [], ◌∷◌, map, if◌then◌else◌, nat_eq, Result, Ok, Err, codes, string_bytes, String}
+use Rattle.std.specs.Cmp.Lexicographic.{pointwise}
+use Rattle.std.specs.declared.alloc.Global.{Global}
+use Rattle.collector.specs.declared.words.ToolPlan.{ToolPlan}
+use Rattle.collector.specs.declared.words.ToolPlan.TheVariants.{Canon}
+use Rattle.collector.specs.declared.words.WordReason.TheVariants.{NoCommand, UnknownCommand, MissingWord, ExtraWord}
+use Rattle.collector.specs.declared.words.WordRefusal.{WordRefusal}
+use Rattle.collector.specs.declared.words.WordRefusal.TheVariants.{Fault, NoMemory}
+
+-- the words as texts
+abbrev pub texts_of : List (String Global) → List (List ℕ)
+texts_of words = map string_bytes words
+
+-- whether a word is this name
+abbrev pub is_word : List ℕ → List ℕ → Bool
+is_word word name = pointwise nat_eq word name
+
+-- a command that takes exactly two words
+abbrev pub two_words : (List ℕ → List ℕ → ToolPlan) → List (List ℕ) → Result ToolPlan WordRefusal
+two_words make [] = Err (Fault 1 MissingWord)
+two_words make (a ∷ []) = Err (Fault 2 MissingWord)
+two_words make (a ∷ b ∷ []) = Ok (make a b)
+two_words make (a ∷ b ∷ c ∷ more) = Err (Fault 3 ExtraWord)
+
+-- what the words ask for, or what is wrong with them; one line a command
+abbrev pub planned : List (List ℕ) → Result ToolPlan WordRefusal
+planned [] = Err (Fault 0 NoCommand)
+planned (command ∷ rest) =
+    if is_word command (codes "canon") then two_words Canon rest
+    else Err (Fault 0 UnknownCommand)
+
+-- the refusal is the one that is wanted, or memory was wanting
+abbrev pub IsWordRefusal : Result ToolPlan WordRefusal → WordRefusal → Type 0
+IsWordRefusal want (Fault place reason) = want ≡ Err (Fault place reason)
+IsWordRefusal want NoMemory = Unit {0}

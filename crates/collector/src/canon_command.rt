@@ -1,0 +1,69 @@
+//! The command `canon`.
+ghost use Rattle.std.specs.Prelude.{◌≡◌, ◌≤◌, Ok, IfOk, IfErr, IfSome};
+ghost use Rattle.otlp_msg.specs.Message.{value_of};
+ghost use Rattle.collector.specs.CanonAnswer.{canon_answer, canon_in, canon_file};
+ghost use Rattle.collector.specs.Causes.{IsStop, ReadCause, IsOfInput, IsNoFault};
+ghost use Rattle.collector.specs.Outputs.{one_file};
+
+use crate::lines::wrote_line;
+use crate::reading::{checked_message, read_bytes};
+use crate::{BuildFault, Output, Stop, ToolRefusal, Writes, canon};
+use otlp_msg::Checked;
+use outside::Files;
+use pb_wire::{Blob, NoMemory, Text};
+use std::alloc::Global;
+
+/// What `canon IN OUT` writes.
+pub fn perform_canon<F: Files>(
+    alloc: Global,
+    file: &Text,
+    target: &Text,
+    files: &mut F,
+) -> Result<Output, Stop>
+    ensures ok { IfOk result (λ output. IfSome (F.told files.old) (λ m. canon_answer m file.now target.now ≡ Ok output)) }
+    ensures stopped { IfErr result (λ stop. IfSome (F.told files.old) (λ m. IsStop (canon_answer m file.now target.now) stop)) }
+    ensures same { F.told files.new ≡ F.told files.old }
+    ensures cause { IfErr result (ReadCause (F.faults files.old) (F.faults files.new)) }
+    ensures later { F.faults files.old ≤ F.faults files.new }
+    ensures sound { F.sound files.old → F.sound files.new × IfErr result IsNoFault }
+{
+    match read_bytes(alloc, file, files) {
+        Ok(body) => canon_in(alloc, file, body.as_slice(), target),
+        Err(stop) => Err(stop),
+    }
+}
+
+// The same from the bytes of the file.
+fn canon_in(alloc: Global, file: &Text, body: &[u8], target: &Text) -> Result<Output, Stop>
+    ensures ok { IfOk result (λ output. canon_in file.now target.now body.now ≡ Ok output) }
+    ensures stopped { IfErr result (IsStop (canon_in file.now target.now body.now)) }
+    ensures cause { IfErr result IsOfInput }
+{
+    match checked_message(alloc, file, body) {
+        Ok(message) => canon_file(alloc, target, &message),
+        Err(stop) => Err(stop),
+    }
+}
+
+// The canonical bytes of a message, as one file.
+fn canon_file(alloc: Global, target: &Text, message: &Checked<'_>) -> Result<Output, Stop>
+    ensures ok { IfOk result (λ output. canon_file target.now (value_of message.now) ≡ Ok output) }
+    ensures stopped { IfErr result (IsStop (canon_file target.now (value_of message.now))) }
+    ensures cause { IfErr result IsOfInput }
+{
+    match canon(alloc, message) {
+        Ok(bytes) => Ok(output_of_one(alloc, target, bytes)?),
+        Err(BuildFault::OutputLimit { size }) => Err(Stop::Refused(ToolRefusal::Limit { size })),
+        Err(BuildFault::NoMemory) => Err(Stop::NoMemory),
+    }
+}
+
+// One file, and the line that it was written.
+fn output_of_one(alloc: Global, target: &Text, bytes: Blob) -> Result<Output, NoMemory>
+    ensures { IfOk result (λ output. output ≡ one_file target.now bytes) }
+{
+    let lines = wrote_line(alloc, target.as_str(), bytes.len())?;
+    let mut files = Writes::begin(alloc);
+    files.add(Text::copy_of(alloc, target.as_str())?, bytes)?;
+    Ok(Output { files, lines })
+}

@@ -1,0 +1,121 @@
+//! Why a run ended without its output: the status, and the line on the standard error.
+ghost use Rattle.std.specs.Prelude.{◌≡◌, ◌<◌, IfOk};
+ghost use Rattle.collector.specs.Lines.{status_of, refusal_status, line_of, refusal_line, IsStatus};
+
+use crate::lines::{file_line, limit_line, no_memory_line, read_line, words_line, write_line};
+use crate::{WordReason, WordRefusal};
+use pb_wire::{NoMemory, Text};
+use std::alloc::{AllocError, Global};
+
+/// What the answer refuses.
+#[derive(Drop)]
+pub enum ToolRefusal {
+    /// The words ask for nothing.
+    Words { place: u32, reason: WordReason },
+    /// A file is missing or no message; the text says why.
+    File { name: Text, text: Text },
+    /// The output would have this number of bytes, which is above its limit.
+    Limit { size: u64 },
+}
+
+/// Why a run ended without its output.
+#[derive(Drop)]
+pub enum Stop {
+    /// The answer is a refusal.
+    Refused(ToolRefusal),
+    /// A file could not be read.
+    Read { name: Text },
+    /// A file, or the standard output, could not be written.
+    Write { name: Text },
+    NoMemory,
+}
+
+impl From<NoMemory> for Stop {
+    ghost use Rattle.std.specs.Prelude.{◌≡◌};
+    ghost use Rattle.collector.specs.declared.stop.Stop.TheVariants as stop;
+
+    ghost from_gives = { λ _ s. s ≡ stop.NoMemory };
+
+    fn from(_: NoMemory) -> Stop {
+        Stop::NoMemory
+    }
+}
+
+impl From<AllocError> for Stop {
+    ghost use Rattle.std.specs.Prelude.{◌≡◌};
+    ghost use Rattle.collector.specs.declared.stop.Stop.TheVariants as stop;
+
+    ghost from_gives = { λ _ s. s ≡ stop.NoMemory };
+
+    fn from(_: AllocError) -> Stop {
+        Stop::NoMemory
+    }
+}
+
+impl From<WordRefusal> for Stop {
+    ghost use Rattle.std.specs.Prelude.{◌≡◌};
+    ghost use Rattle.collector.specs.Lines.{stop_of_words};
+
+    ghost from_gives = { λ r s. s ≡ stop_of_words r };
+
+    fn from(refusal: WordRefusal) -> Stop {
+        match refusal {
+            WordRefusal::Fault { place, reason } => {
+                Stop::Refused(ToolRefusal::Words { place, reason })
+            }
+            WordRefusal::NoMemory => Stop::NoMemory,
+        }
+    }
+}
+
+impl ToolRefusal {
+    /// The status of a run that was refused so.
+    pub fn status(&self) -> u8
+        ensures { result ≡ refusal_status self.now }
+    {
+        match self {
+            ToolRefusal::Words { .. } => 1,
+            ToolRefusal::File { .. } => 2,
+            ToolRefusal::Limit { .. } => 5,
+        }
+    }
+
+    /// The line on the standard error.
+    pub fn line(&self, alloc: Global) -> Result<Text, NoMemory>
+        ensures { IfOk result (λ line. line ≡ refusal_line self.now) }
+    {
+        match self {
+            ToolRefusal::Words { place, reason } => words_line(alloc, *place, *reason),
+            ToolRefusal::File { name, text } => file_line(alloc, name.as_str(), text.as_str()),
+            ToolRefusal::Limit { size } => limit_line(alloc, *size),
+        }
+    }
+}
+
+impl Stop {
+    /// The status of a run that ended so.
+    pub fn status(&self) -> u8
+        ensures status { result ≡ status_of self.now }
+        ensures listed { IsStatus result }
+        ensures stopped { 0 < result }
+    {
+        match self {
+            Stop::Refused(refusal) => refusal.status(),
+            Stop::Read { .. } => 6,
+            Stop::NoMemory => 7,
+            Stop::Write { .. } => 8,
+        }
+    }
+
+    /// The line on the standard error.
+    pub fn line(&self, alloc: Global) -> Result<Text, NoMemory>
+        ensures { IfOk result (λ line. line ≡ line_of self.now) }
+    {
+        match self {
+            Stop::Refused(refusal) => refusal.line(alloc),
+            Stop::Read { name } => read_line(alloc, name.as_str()),
+            Stop::Write { name } => write_line(alloc, name.as_str()),
+            Stop::NoMemory => no_memory_line(alloc),
+        }
+    }
+}

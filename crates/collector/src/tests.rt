@@ -1,0 +1,159 @@
+use crate::run_tool;
+use outside::{Files, FixedSeeds, Got, MemFiles, MemSink};
+use std::alloc::{AllocError, Global};
+use std::test::Fail;
+
+// The call that is to fail.
+#[derive(Clone, Copy)]
+enum Failing {
+    Nothing,
+    Read,
+    Write,
+    Out,
+    Err,
+}
+
+// A run over files that hold `IN` alone: its words, the bytes of `IN` and the call that is to fail; then the status, the
+// texts on the standard output and the standard error, and the bytes of `OUT`, empty where there is no such file.
+#[derive(Clone, Copy)]
+struct Row<'a> {
+    words: &'a str,
+    input: &'a [u8],
+    failing: Failing,
+    status: u8,
+    out: &'a str,
+    err: &'a str,
+    written: &'a [u8],
+}
+
+const EMPTY_DICTIONARY: [u8; 16] = [
+    0x12, 0x0E, 0x0A, 0, 0x12, 0, 0x1A, 0, 0x22, 0, 0x2A, 0, 0x32, 0, 0x3A, 0,
+];
+
+const BAD: [u8; 2] = [1, 2];
+
+// A row that writes nothing and prints nothing on the standard output.
+fn silent_row<'a>(words: &'a str, input: &'a [u8], status: u8, err: &'a str) -> Row<'a> {
+    Row {
+        words,
+        input,
+        failing: Failing::Nothing,
+        status,
+        out: "",
+        err,
+        written: b"",
+    }
+}
+
+fn words_of(alloc: Global, line: &str) -> Result<Vec<String>, AllocError> {
+    let mut words = Vec::new(alloc);
+    for word in line.split_whitespace() {
+        words.push(String::from_str(alloc, word)?)?;
+    }
+    Ok(words)
+}
+
+// The numbers of the calls of the files that are to fail: the input is written by call 0 and read by call 1.
+fn failing_files(alloc: Global, failing: Failing) -> Result<Vec<u64>, Fail> {
+    match failing {
+        Failing::Read => Ok(vec![in alloc; 1]?),
+        Failing::Write => Ok(vec![in alloc; 2]?),
+        _ => Ok(Vec::new(alloc)),
+    }
+}
+
+fn failing_sink(alloc: Global, fails: bool) -> Result<MemSink, Fail> {
+    let mut calls = Vec::new(alloc);
+    if fails {
+        calls.push(0)?;
+    }
+    Ok(MemSink::begin(alloc, calls))
+}
+
+fn bytes_of_out(alloc: Global, files: &mut MemFiles) -> Result<Vec<u8>, Fail> {
+    match files.read(alloc, "OUT", 1000)? {
+        Got::Whole(bytes) => Ok(bytes.as_slice().to_vec(alloc)?),
+        _ => Ok(Vec::new(alloc)),
+    }
+}
+
+// What a run left.
+#[derive(Drop)]
+struct Left {
+    status: u8,
+    out: Vec<u8>,
+    err: Vec<u8>,
+    written: Vec<u8>,
+}
+
+fn run_row(alloc: Global, row: &Row<'_>) -> Result<Left, Fail> {
+    let mut files = MemFiles::begin(alloc, failing_files(alloc, row.failing)?);
+    files.write(alloc, "IN", row.input)?;
+    let mut out = failing_sink(alloc, matches!(row.failing, Failing::Out))?;
+    let mut err = failing_sink(alloc, matches!(row.failing, Failing::Err))?;
+    let words = words_of(alloc, row.words)?;
+    let status = run_tool(
+        alloc,
+        &words,
+        &mut files,
+        &mut out,
+        &mut err,
+        &mut FixedSeeds,
+    );
+    Ok(Left {
+        status,
+        out: out.bytes().to_vec(alloc)?,
+        err: err.bytes().to_vec(alloc)?,
+        written: bytes_of_out(alloc, &mut files)?,
+    })
+}
+
+#[test]
+fn answers(rt: HostRuntime) -> Result<(), Fail> {
+    let alloc = rt.alloc();
+    let rows = [
+        silent_row("", b"", 1, "otelprof: word 0: NoCommand\n"),
+        silent_row(
+            "cannon IN OUT",
+            b"",
+            1,
+            "otelprof: word 0: UnknownCommand\n",
+        ),
+        silent_row("canon", b"", 1, "otelprof: word 1: MissingWord\n"),
+        silent_row("canon IN", b"", 1, "otelprof: word 2: MissingWord\n"),
+        silent_row("canon IN OUT x", b"", 1, "otelprof: word 3: ExtraWord\n"),
+        silent_row("canon x OUT", b"", 2, "x: missing\n"),
+        silent_row("canon IN OUT", &BAD, 2, "IN: wire fault Truncated at 0\n"),
+        Row {
+            out: "wrote OUT, 16 bytes\n",
+            written: &EMPTY_DICTIONARY,
+            ..silent_row("canon IN OUT", b"", 0, "")
+        },
+        Row {
+            failing: Failing::Read,
+            ..silent_row("canon IN OUT", b"", 6, "read failed: IN\n")
+        },
+        Row {
+            failing: Failing::Write,
+            ..silent_row("canon IN OUT", b"", 8, "write failed: OUT\n")
+        },
+        Row {
+            failing: Failing::Out,
+            written: &EMPTY_DICTIONARY,
+            ..silent_row("canon IN OUT", b"", 8, "write failed: standard output\n")
+        },
+        Row {
+            failing: Failing::Err,
+            ..silent_row("canon IN", b"", 1, "")
+        },
+    ];
+    for row in rows {
+        let words = row.words;
+        let left = run_row(alloc, &row)?;
+        assert_eq!(rt; left.status, row.status, "status of {words}");
+        assert_eq!(rt; left.out.as_slice(), row.out.as_bytes(), "out of {words}");
+        assert_eq!(rt; left.err.as_slice(), row.err.as_bytes(), "err of {words}");
+        assert_eq!(rt; left.written.as_slice(), row.written, "file of {words}");
+    }
+    Ok(())
+}

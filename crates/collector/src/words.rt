@@ -1,0 +1,81 @@
+//! The words of the command line.
+ghost use Rattle.std.specs.Prelude.{◌≡◌, Ok, IfOk, IfErr};
+ghost use Rattle.collector.specs.Plan.{planned, two_words, texts_of, IsWordRefusal};
+
+use pb_wire::{NoMemory, Text};
+use std::alloc::Global;
+
+/// What the words ask for.
+#[derive(Drop)]
+pub enum ToolPlan {
+    /// Writes the canonical bytes of the message in `file` to `target`.
+    Canon { file: Text, target: Text },
+}
+
+/// What is wrong with the words.
+#[derive(Clone, Copy, Debug, PartialEq, Eq)]
+pub enum WordReason {
+    /// There are no words.
+    NoCommand,
+    /// The first word is no command.
+    UnknownCommand,
+    /// The command needs one word more.
+    MissingWord,
+    /// The command takes fewer words.
+    ExtraWord,
+}
+
+/// Why the words ask for nothing.
+#[derive(Clone, Copy, Debug, PartialEq, Eq)]
+pub enum WordRefusal {
+    /// The place is that of the word, counted from 0; at `MissingWord` it is the number of words.
+    Fault { place: u32, reason: WordReason },
+    NoMemory,
+}
+
+impl From<NoMemory> for WordRefusal {
+    ghost use Rattle.std.specs.Prelude.{◌≡◌};
+    ghost use Rattle.collector.specs.declared.words.WordRefusal.TheVariants as refusal;
+
+    ghost from_gives = { λ _ e. e ≡ refusal.NoMemory };
+
+    fn from(_: NoMemory) -> WordRefusal {
+        WordRefusal::NoMemory
+    }
+}
+
+/// What the words ask for: a command, and the words that it takes.
+pub fn plan(alloc: Global, words: &[String]) -> Result<ToolPlan, WordRefusal>
+    ensures ok { IfOk result (λ plan. planned (texts_of words.now) ≡ Ok plan) }
+    ensures refused { IfErr result (IsWordRefusal (planned (texts_of words.now))) }
+{
+    let [command, rest @ ..] = words else {
+        return fault(0, WordReason::NoCommand);
+    };
+    if command.as_str() == "canon" {
+        return canon_plan(alloc, rest);
+    }
+    fault(0, WordReason::UnknownCommand)
+}
+
+fn fault(place: u32, reason: WordReason) -> Result<ToolPlan, WordRefusal>
+    ensures { result ≡ Err (WordRefusal.Fault place reason) }
+{
+    Err(WordRefusal::Fault { place, reason })
+}
+
+// `canon IN OUT`, without its command.
+fn canon_plan(alloc: Global, rest: &[String]) -> Result<ToolPlan, WordRefusal>
+    ensures ok { IfOk result (λ plan. two_words ToolPlan.Canon (texts_of rest.now) ≡ Ok plan) }
+    ensures refused { IfErr result (IsWordRefusal (two_words ToolPlan.Canon (texts_of rest.now))) }
+{
+    match rest {
+        [] => fault(1, WordReason::MissingWord),
+        [_] => fault(2, WordReason::MissingWord),
+        [file, target] => Ok(ToolPlan::Canon {
+            file: Text::copy_of(alloc, file.as_str())?,
+            target: Text::copy_of(alloc, target.as_str())?,
+        }),
+        _ => fault(3, WordReason::ExtraWord),
+    }
+}

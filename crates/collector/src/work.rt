@@ -1,0 +1,23 @@
+//! What a plan comes to: all is read and computed here, and nothing is written.
+ghost use Rattle.std.specs.Prelude.{◌≡◌, ◌≤◌, Ok, IfOk, IfErr, IfSome};
+ghost use Rattle.collector.specs.Answer.{performed};
+ghost use Rattle.collector.specs.Causes.{IsStop, ReadCause, IsNoFault};
+
+use crate::canon_command::perform_canon;
+use crate::{Output, Stop, ToolPlan};
+use outside::Files;
+use std::alloc::Global;
+
+/// The output of a plan. The files are read, and stay as they are.
+pub fn perform<F: Files>(alloc: Global, plan: &ToolPlan, files: &mut F) -> Result<Output, Stop>
+    ensures ok { IfOk result (λ output. IfSome (F.told files.old) (λ m. performed plan.now m ≡ Ok output)) }
+    ensures stopped { IfErr result (λ stop. IfSome (F.told files.old) (λ m. IsStop (performed plan.now m) stop)) }
+    ensures same { F.told files.new ≡ F.told files.old }
+    ensures cause { IfErr result (ReadCause (F.faults files.old) (F.faults files.new)) }
+    ensures later { F.faults files.old ≤ F.faults files.new }
+    ensures sound { F.sound files.old → F.sound files.new × IfErr result IsNoFault }
+{
+    match plan {
+        ToolPlan::Canon { file, target } => perform_canon(alloc, file, target, files),
+    }
+}
