@@ -1,18 +1,47 @@
--- A stand-in for the canonical bytes of a message: its bytes, then an empty dictionary.
-use Rattle.std.specs.Prelude.{◌≡◌, ◌+◌, ℕ, List, [], ◌∷◌, ◌++◌, length, if◌then◌else◌, nat_lt, Result, Ok, Err}
-use Rattle.otlp_msg.specs.Message.{Message}
+-- The meaning of a message, and its canonical bytes.
+use Rattle.std.specs.Prelude.{◌≡◌, ℕ, List, [], ◌∷◌, length, if◌then◌else◌, nat_lt, Result, Ok, Err}
+use Rattle.schema.specs.Messages.{mapping, location, function, link, attribute, stack, resource_profiles, dictionary, envelope}
+use Rattle.schema.specs.Shape.{Value, empty, unbuilt}
+use Rattle.schema.specs.Spell.{spell}
+use Rattle.otlp_msg.specs.Message.{Message, message_limit, records_of}
 use Rattle.collector.specs.declared.canonical.BuildFault.{BuildFault}
 use Rattle.collector.specs.declared.canonical.BuildFault.TheVariants.{OutputLimit, NoMemory}
 
--- the empty dictionary
-abbrev pub tail : List ℕ
-tail = 0x12 ∷ 0x0E ∷ 0x0A ∷ 0 ∷ 0x12 ∷ 0 ∷ 0x1A ∷ 0 ∷ 0x22 ∷ 0 ∷ 0x2A ∷ 0 ∷ 0x32 ∷ 0 ∷ 0x3A ∷ 0 ∷ []
+-- A meaning is the list of resource records with each index replaced by the value of its entry. No field that is read yet
+-- is an index, so the records stand for themselves.
+abbrev pub Meaning : Type 0
+Meaning = List (Value resource_profiles)
 
--- the canonical bytes, or their number where there are too many
-unfoldable pub canon_of : Message → Result (List ℕ) BuildFault
-canon_of body =
-    if nat_lt 33554432 (length body + 16) then Err (OutputLimit (length body + 16))
-    else Ok (body ++ tail)
+abbrev pub meaning_of : Message → Meaning
+meaning_of m = records_of m
+
+-- the dictionary of a meaning that uses no entry: each table is its zero value alone
+abbrev pub zero_dictionary : Value dictionary
+zero_dictionary = (
+  empty (unbuilt mapping) ∷ [],
+  (
+    empty (unbuilt location) ∷ [],
+    (
+      empty (unbuilt function) ∷ [],
+      (empty (unbuilt link) ∷ [], ([] ∷ [], (empty (unbuilt attribute) ∷ [], (empty (unbuilt stack) ∷ [], tt)))),
+    ),
+  ),
+)
+
+-- the one message of a meaning
+abbrev pub canonical : Meaning → Message
+canonical records = (records, (zero_dictionary, tt))
+
+-- the canonical bytes of a meaning
+unfoldable pub canonical_bytes : Meaning → List ℕ
+canonical_bytes records = spell envelope (canonical records)
+
+-- the canonical bytes of a message, or their number where there are too many
+abbrev pub within_limit : List ℕ → Result (List ℕ) BuildFault
+within_limit bytes = if nat_lt message_limit (length bytes) then Err (OutputLimit (length bytes)) else Ok bytes
+
+abbrev pub canon_of : Message → Result (List ℕ) BuildFault
+canon_of m = within_limit (canonical_bytes (meaning_of m))
 
 -- the fault is the one that is wanted, or memory was wanting
 abbrev pub IsBuildFault : {T : Type 0} → Result T BuildFault → BuildFault → Type 0

@@ -1,6 +1,6 @@
 //! The command `canon`.
 ghost use Rattle.std.specs.Prelude.{◌≡◌, ◌≤◌, Ok, IfOk, IfErr, IfSome};
-ghost use Rattle.otlp_msg.specs.Message.{value_of};
+ghost use Rattle.otlp_msg.specs.Checked.{value_of};
 ghost use Rattle.collector.specs.CanonAnswer.{canon_answer, canon_in, canon_file};
 ghost use Rattle.collector.specs.Causes.{IsStop, ReadCause, IsOfInput, IsNoFault};
 ghost use Rattle.collector.specs.Outputs.{one_file};

@@ -1,10 +1,19 @@
-//! A stand-in for the canonical bytes of a message: its bytes, then an empty dictionary.
-ghost use Rattle.std.specs.Prelude.{◌≡◌, Ok, IfOk, IfErr};
-ghost use Rattle.otlp_msg.specs.Message.{value_of};
-ghost use Rattle.collector.specs.Canonical.{canon_of, IsBuildFault};
+//! The canonical bytes of a message.
+ghost use Rattle.std.specs.Prelude.{◌≡◌, ◌<◌, ◌^◌, Ok, IfOk, IfErr, OnOk, OnErr, length, map};
+ghost use Rattle.schema.specs.Messages.{resource_profiles, dictionary};
+ghost use Rattle.schema.specs.Spell.{spell, items_text, bytes_field};
+ghost use Rattle.otlp_msg.specs.Checked.{value_of};
+ghost use Rattle.otlp_msg.specs.Message.{message_of};
+ghost use Rattle.otlp_msg.specs.Views.{dictionary_view};
+ghost use Rattle.collector.specs.Canonical.{canonical, canon_of, meaning_of, zero_dictionary as zero_dictionary_of, IsBuildFault};
 
-use otlp_msg::{Checked, MESSAGE_LIMIT};
-use pb_wire::Blob;
+use otlp_msg::{
+    Attr, Checked, Dictionary, Function, Link, Location, MESSAGE_LIMIT, Mapping, ResourceProfiles,
+    Stack,
+};
+use pb_wire::{
+    Blob, NoMemory, Text, Wire, message_len, messages_len, put_message, put_messages,
+};
 use std::alloc::Global;
 
 /// Why no canonical bytes are made.
@@ -15,25 +24,47 @@ pub enum BuildFault {
     NoMemory,
 }
 
-const TAIL: [u8; 16] = [
-    0x12, 0x0E, 0x0A, 0, 0x12, 0, 0x1A, 0, 0x22, 0, 0x2A, 0, 0x32, 0, 0x3A, 0,
-];
+impl From<NoMemory> for BuildFault {
+    ghost use Rattle.collector.specs.declared.canonical.BuildFault.TheVariants as fault;
 
-/// The canonical bytes of a message.
-#[tactic(auto, unfolding(crate::specs::Canonical::canon_of))]
+    ghost from_gives = { λ _ f. f ≡ fault.NoMemory };
+
+    fn from(_: NoMemory) -> BuildFault {
+        BuildFault::NoMemory
+    }
+}
+
+/// The canonical bytes of a message: its records, then the seven tables, of which each holds the zero value alone.
 pub fn canon(alloc: Global, message: &Checked<'_>) -> Result<Blob, BuildFault>
     ensures ok { IfOk result (λ b. canon_of (value_of message.now) ≡ Ok b) }
     ensures refused { IfErr result (IsBuildFault (canon_of (value_of message.now))) }
+
+    // What is written is accepted, with the same meaning.
+    ensures accepted { IfOk result (λ b. message_of b ≡ Ok (canonical (meaning_of (value_of message.now)))) }
 {
-    let size = (message.body.len() as u64).saturating_add(16);
+    let records = &message.message().records;
+    let dictionary = zero_dictionary(alloc)?;
+    let size = messages_len::<ResourceProfiles>(1, records) + message_len(2, &dictionary);
     if size > MESSAGE_LIMIT {
         return Err(BuildFault::OutputLimit { size });
     }
-    let Ok(mut bytes) = Blob::copy_of(alloc, message.body) else {
-        return Err(BuildFault::NoMemory);
-    };
-    let Ok(()) = bytes.append(&TAIL) else {
-        return Err(BuildFault::NoMemory);
-    };
+    let mut bytes = Blob::with_room(alloc, size as usize)?;
+    put_messages::<ResourceProfiles>(&mut bytes, 1, records)?;
+    put_message(&mut bytes, 2, &dictionary)?;
     Ok(bytes)
+}
+
+// The dictionary whose tables hold their zero values alone.
+fn zero_dictionary(alloc: Global) -> Result<Dictionary, NoMemory>
+    ensures { IfOk result (λ d. dictionary_view d ≡ zero_dictionary_of) }
+{
+    let mut dictionary = Dictionary::none(alloc);
+    dictionary.mapping_table.add(Mapping::none(alloc))?;
+    dictionary.location_table.add(Location::none(alloc))?;
+    dictionary.function_table.add(Function::none(alloc))?;
+    dictionary.link_table.add(Link::none(alloc))?;
+    dictionary.string_table.add(Text::begin(alloc))?;
+    dictionary.attribute_table.add(Attr::none(alloc))?;
+    dictionary.stack_table.add(Stack::none(alloc))?;
+    Ok(dictionary)
 }

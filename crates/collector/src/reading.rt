@@ -1,6 +1,7 @@
 //! Reads a named file, and the message in it.
 ghost use Rattle.std.specs.Prelude.{◌≡◌, ◌≤◌, Ok, IfOk, IfErr, IfSome};
-ghost use Rattle.otlp_msg.specs.Message.{message_of, value_of};
+ghost use Rattle.otlp_msg.specs.Checked.{value_of};
+ghost use Rattle.otlp_msg.specs.Message.{message_of};
 ghost use Rattle.collector.specs.Messages.{bytes_in, bytes_at, accepted, stop_of_refusal};
 ghost use Rattle.collector.specs.Causes.{IsStop, ReadCause, IsOfInput, IsNoFault};
 

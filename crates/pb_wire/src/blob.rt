@@ -27,6 +27,15 @@ impl Blob {
         }
     }
 
+    /// No bytes, with room for so many.
+    pub fn with_room(alloc: Global, room: usize) -> Result<Blob, NoMemory>
+        ensures { IfOk result (λ b. b ≡ []) }
+    {
+        Ok(Blob {
+            inner: Vec::with_capacity(alloc, room)?,
+        })
+    }
+
     /// The bytes of a vector, which is moved.
     pub fn from_vec(inner: Vec<u8>) -> Blob
         ensures { result ≡ inner.items }
