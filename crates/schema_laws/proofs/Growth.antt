@@ -50,13 +50,13 @@ fixed_field_len n v le = fixed_cases (v == 0)
   fixed_cases true = omega arith
   fixed_cases false = eight_field_len n (to_le_bytes w64 v) le (eight_len v)
 
-long_field_len : (n : ℕ) (b : List ℕ) → n ≤ greatest_number → length b < 2 ^ 64 → length (long_field n b) ≤ 20 + length b
+pub long_field_len : (n : ℕ) (b : List ℕ) → n ≤ greatest_number → length b < 2 ^ 64 → length (long_field n b) ≤ 20 + length b
 long_field_len n b le lt = let a = varint_at_most (n * 8 + 2) (omega arith) in let c = varint_at_most (length b) lt in omega (arith, long_len n b)
 
 pub long_field_le : (n : ℕ) (b : List ℕ) → length b ≤ length (long_field n b)
 long_field_le n b = omega (arith, long_len n b)
 
-bytes_field_len : (n : ℕ) (b : List ℕ) → n ≤ greatest_number → length b < 2 ^ 64 → length (bytes_field n b) ≤ 20 + length b
+pub bytes_field_len : (n : ℕ) (b : List ℕ) → n ≤ greatest_number → length b < 2 ^ 64 → length (bytes_field n b) ≤ 20 + length b
 unfolding bytes_field
 bytes_field_len n b le lt = elim (cases_eq (length b) 0) [
   | inl e ↦ let t : (length b == 0) ≡ true = eq-eqb _ _ e in let x : bytes_field n b ≡ [] = rw t refl in omega (arith, ap length x)
@@ -92,10 +92,10 @@ InRange s x = Unit {0}
 abbrev pub Grows : {A : Type 0} → (A → Type 0) → (A → ℕ) → A → ℕ → A → Type 0
 Grows In size u cost v = In v × (size v ≤ size u + 16 * cost)
 
-stays : {A : Type 0} (In : A → Type 0) (size : A → ℕ) (u v : A) (cost : ℕ) → u ≡ v → In u → Grows In size u cost v
+pub stays : {A : Type 0} (In : A → Type 0) (size : A → ℕ) (u v : A) (cost : ℕ) → u ≡ v → In u → Grows In size u cost v
 stays {A} In size u v cost e i = subst (λ (y : A). Grows In size u cost y) e (i, omega arith)
 
-becomes : {A : Type 0} (In : A → Type 0) (size : A → ℕ) (u x v : A) (cost : ℕ) → x ≡ v → In x → size x ≤ size u + 16 * cost → Grows In size u cost v
+pub becomes : {A : Type 0} (In : A → Type 0) (size : A → ℕ) (u x v : A) (cost : ℕ) → x ≡ v → In x → size x ≤ size u + 16 * cost → Grows In size u cost v
 becomes {A} In size u x v cost e i le = subst (λ (y : A). Grows In size u cost y) e (i, le)
 
 -- the length of a message's spelling
@@ -165,7 +165,7 @@ bytes_keep : (In : List ℕ → Type 0) (n : ℕ) → n ≤ greatest_number → 
 bytes_keep In n le (Long b) u v i room e j = becomes In (λ x. length (bytes_field n x)) u b v (length b + 2) e (subst In (sym e) j) (bytes_grow n le u b room)
 bytes_keep In n le p u v i room e j = stays In (λ x. length (bytes_field n x)) u v (field_cost p) e i
 
-text_is : (t : Bool) (b v : List ℕ) (f : Fault) → (let r : Result (List ℕ) Fault = cond t (Ok b) (Err f) in r ≡ Ok v) → (t ≡ true) × (b ≡ v)
+pub text_is : (t : Bool) (b v : List ℕ) (f : Fault) → (let r : Result (List ℕ) Fault = cond t (Ok b) (Err f) in r ≡ Ok v) → (t ≡ true) × (b ≡ v)
 text_is true b v f e = (refl, ok_is b v e)
 text_is false b v f e = absurd cc
 
@@ -191,7 +191,7 @@ one_message k m keep n le at end (Long b) u v r i room e =
 one_message k m keep n le at end p u v r i room e =
     stays (InRange k) (λ x. length (bytes_field n (spell k x))) u v (field_cost p) (ok_is u v (sym (put_one_short k (take_field k) at end p u m tt) ∙ e)) i
 
-one_keeps : (k : Shape) → Keeps k → (n : ℕ) → n ≤ greatest_number → (at end : ℕ) (p : Payload) (u v : Value k) → PayloadInRange p → InRange k u
+pub one_keeps : (k : Shape) → Keeps k → (n : ℕ) → n ≤ greatest_number → (at end : ℕ) (p : Payload) (u v : Value k) → PayloadInRange p → InRange k u
     → length (spell_one k (spell k) n u) + 16 * field_cost p < 2 ^ 64 → put_one k (take_field k) at end p u ≡ Ok v
     → Grows (InRange k) (λ x. length (spell_one k (spell k) n x)) u (field_cost p) v
 one_keeps (Number w) keep n le at end p u v r i room e = number_keeps w n le p u v r i (ok_is (one_number w p u) v e)

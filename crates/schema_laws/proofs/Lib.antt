@@ -21,3 +21,5 @@ pub mod Parts
 pub mod Lists
 pub mod Ranges
 pub mod Growth
+pub mod GrowthOfLists
+pub mod ReadFits

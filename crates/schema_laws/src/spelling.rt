@@ -1,8 +1,9 @@
-ghost use Rattle.std.specs.Prelude.{◌≡◌, ℕ, ◌+◌, List, ◌++◌, length, Ok, true};
-ghost use Rattle.schema.specs.Fits.{Fits, Lawful, is_lawful};
-ghost use Rattle.schema.specs.Merge.{merge};
+ghost use Rattle.std.specs.Prelude.{◌≡◌, ℕ, ◌+◌, ◌*◌, ◌<◌, ◌^◌, List, ◌++◌, length, Ok, true};
+ghost use Rattle.schema.specs.Fits.{Each, Fits, Lawful, is_lawful};
+ghost use Rattle.schema.specs.Merge.{Part, merge, merge_all};
 ghost use Rattle.schema.specs.Shape.{IsMessage, Shape, Value, empty};
 ghost use Rattle.schema.specs.Spell.{spell, spell_onto, len_onto};
+ghost use Rattle.schema.specs.Value.{joined};
 
 /// Rows that are appended one after the other are the spelling, and the lengths of the rows are its length.
 pub fn spelling_has_its_length()
@@ -18,4 +19,19 @@ pub fn reads_back()
 /// The test of a shape says that its rows can be told apart.
 pub fn test_of_lawful()
     ensures { (s : Shape) → is_lawful s ≡ true → Lawful s }
+{}
+
+/// A value that is read of bytes fits, in one part or in several, so its spelling is read as the same value. A spelling is
+/// less than sixteen times as long as the bytes: it may be longer than they are, since a negative number of 32 bits is
+/// read of five bytes and is spelled with ten.
+pub fn read_values_fit()
+    ensures whole { (s : Shape) → IsMessage s → Lawful s → (base : ℕ) → (bytes : List ℕ) → (v : Value s)
+        → Each (λ b. b < 256) bytes → 16 * length bytes < 2 ^ 64 → merge s (empty s) base bytes ≡ Ok v → Fits s v }
+    ensures parts { (s : Shape) → IsMessage s → Lawful s → (parts : List Part) → (v : Value s)
+        → Each (λ b. b < 256) (joined parts) → 16 * length (joined parts) < 2 ^ 64 → merge_all s (empty s) parts ≡ Ok v → Fits s v }
+{}
+
+/// The empty value is spelled by no bytes.
+pub fn empty_is_spelled_by_nothing()
+    ensures { (s : Shape) → length (spell s (empty s)) ≡ 0 }
 {}
