@@ -1,5 +1,5 @@
 //! A message that was accepted.
-ghost use Rattle.std.specs.Prelude.{◌≡◌, Ok};
+ghost use Rattle.std.specs.Prelude.{◌≡◌, ◌<◌, Ok, All};
 ghost use Rattle.otlp_msg.specs.Message.{message_of};
 ghost use Rattle.otlp_msg.specs.Views.{message_view};
 
@@ -10,10 +10,15 @@ use crate::Message;
 pub struct Checked<'a> {
     pub(crate) body: &'a [u8],
     pub(crate) message: Message,
+    ghost octets: { All (λ b. b < 256) body.now },
     pub ghost read: { message_of body.now ≡ Ok (message_view message) },
 }
 
 impl<'a> Checked<'a> {
+    ghost use Rattle.std.specs.Prelude.{◌^◌, length};
+    ghost use Rattle.schema.specs.Fits.{Fits};
+    ghost use Rattle.schema.specs.Messages.{envelope};
+    ghost use Rattle.schema.specs.Spell.{spell};
     ghost use Rattle.otlp_msg.specs.Checked.{body_of, value_of};
 
     /// The bytes that the message was read from. It takes no memory.
@@ -23,9 +28,11 @@ impl<'a> Checked<'a> {
         self.body
     }
 
-    /// The message. It takes no memory.
+    /// The message. It takes no memory. Its spelling is short enough to be written, and it is read again.
     pub fn message(&self) -> &Message
-        ensures { message_view result.now ≡ value_of self.now }
+        ensures value { message_view result.now ≡ value_of self.now }
+        ensures short { length (spell envelope (value_of self.now)) < 2 ^ 62 }
+        ensures fits { Fits envelope (value_of self.now) }
     {
         &self.message
     }

@@ -108,3 +108,11 @@ read_fits s m lawful base bytes v o room e =
     let g = message_keeps s (keeps s) base bytes (empty s) v o (empty_in s) (omega arith) e in
     let short = g.1 in
     fits_from s m lawful v g.0 (omega arith)
+
+-- and its spelling is at most sixteen times as long as the bytes
+pub read_short : (s : Shape) → (base : ℕ) (bytes : List ℕ) (v : Value s) → Octets bytes → 16 * length bytes < 2 ^ 64 → merge s (empty s) base bytes ≡ Ok v → size s v ≤ 16 * length bytes
+read_short s base bytes v o room e =
+    let none : size s (empty s) ≡ 0 = ap length (spells_nothing s) in
+    let g = message_keeps s (keeps s) base bytes (empty s) v o (empty_in s) (omega arith) e in
+    let short = g.1 in
+    omega arith

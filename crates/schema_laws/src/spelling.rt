@@ -1,4 +1,4 @@
-ghost use Rattle.std.specs.Prelude.{◌≡◌, ℕ, ◌+◌, ◌*◌, ◌<◌, ◌^◌, List, ◌++◌, length, Ok, true};
+ghost use Rattle.std.specs.Prelude.{◌≡◌, ℕ, ◌+◌, ◌*◌, ◌<◌, ◌≤◌, ◌^◌, List, ◌++◌, length, Ok, true};
 ghost use Rattle.schema.specs.Fits.{Each, Fits, Lawful, is_lawful};
 ghost use Rattle.schema.specs.Merge.{Part, merge, merge_all};
 ghost use Rattle.schema.specs.Shape.{IsMessage, Shape, Value, empty};
@@ -27,6 +27,8 @@ pub fn test_of_lawful()
 pub fn read_values_fit()
     ensures whole { (s : Shape) → IsMessage s → Lawful s → (base : ℕ) → (bytes : List ℕ) → (v : Value s)
         → Each (λ b. b < 256) bytes → 16 * length bytes < 2 ^ 64 → merge s (empty s) base bytes ≡ Ok v → Fits s v }
+    ensures short { (s : Shape) → (base : ℕ) → (bytes : List ℕ) → (v : Value s)
+        → Each (λ b. b < 256) bytes → 16 * length bytes < 2 ^ 64 → merge s (empty s) base bytes ≡ Ok v → length (spell s v) ≤ 16 * length bytes }
     ensures parts { (s : Shape) → IsMessage s → Lawful s → (parts : List Part) → (v : Value s)
         → Each (λ b. b < 256) (joined parts) → 16 * length (joined parts) < 2 ^ 64 → merge_all s (empty s) parts ≡ Ok v → Fits s v }
 {}
