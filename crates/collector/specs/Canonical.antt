@@ -1,8 +1,8 @@
 -- The meaning of a message, and its canonical bytes.
-use Rattle.std.specs.Prelude.{◌≡◌, ℕ, List, [], ◌∷◌, length, if◌then◌else◌, nat_lt, Result, Ok, Err}
+use Rattle.std.specs.Prelude.{◌≡◌, ℕ, List, [], ◌∷◌, length, map, if◌then◌else◌, nat_lt, Result, Ok, Err}
 use Rattle.schema.specs.Messages.{mapping, location, function, link, attribute, stack, resource_profiles, dictionary, envelope}
 use Rattle.schema.specs.Shape.{Value, empty, unbuilt}
-use Rattle.schema.specs.Spell.{spell}
+use Rattle.schema.specs.Spell.{spell, items_text, bytes_field}
 use Rattle.otlp_msg.specs.Message.{Message, message_limit, records_of}
 use Rattle.collector.specs.declared.canonical.BuildFault.{BuildFault}
 use Rattle.collector.specs.declared.canonical.BuildFault.TheVariants.{OutputLimit, NoMemory}
@@ -31,6 +31,13 @@ zero_dictionary = (
 -- the one message of a meaning
 abbrev pub canonical : Meaning → Message
 canonical records = (records, (zero_dictionary, tt))
+
+-- the bytes of the records, and of the dictionary
+abbrev pub records_text : Meaning → List ℕ
+records_text records = items_text 1 (map (spell resource_profiles) records)
+
+abbrev pub tables_text : Value dictionary → List ℕ
+tables_text d = bytes_field 2 (spell dictionary d)
 
 -- the canonical bytes of a meaning
 unfoldable pub canonical_bytes : Meaning → List ℕ
