@@ -1,9 +1,9 @@
 -- A field that is spelled at the front is read there.
-use Rattle.std.proofs.Common.{◌≡◌, ℕ, zero, suc, ◌+◌, ◌*◌, ◌/◌, ◌%◌, ◌^◌, ◌<◌, true, false, List, [], ◌∷◌, ◌++◌, length, Ok, refl, ap, ◌∙◌, arith, append_assoc, pow-suc, length-append, inl, inr}
-use Rattle.std.specs.Prelude.{nat_lt, ◌==◌, ◌||◌, ◌⊎◌}
+use Rattle.std.proofs.Common.{◌≡◌, ℕ, zero, suc, ◌+◌, ◌*◌, ◌/◌, ◌%◌, ◌^◌, ◌<◌, true, false, List, ◌++◌, length, Ok, refl, ap, ◌∙◌, arith, append_assoc, pow-suc, length-append, inl, inr}
+use Rattle.std.specs.Prelude.{nat_lt, ◌==◌}
 use Rattle.std.proofs.lemmas.Bool.{cases_lt, lt-ltb, le-ltb, ne_eqb}
 use Rattle.std.proofs.lemmas.List.{take_at, drop_at}
-use Rattle.schema.specs.Field.{Payload, Varint, Eight, Long, Field, greatest_number}
+use Rattle.schema.specs.Field.{Varint, Eight, Long, greatest_number}
 use Rattle.schema.specs.Steps.{◌>>=◌, varint_at, bytes_at, payload_at, field_at}
 use Rattle.schema.specs.Spell.{varint, long_field}
 use Rattle.schema_laws.proofs.Onto.{varint_small, varint_large}

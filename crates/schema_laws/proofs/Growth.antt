@@ -1,12 +1,9 @@
 -- A value that is read is in its range, and each field makes its spelling longer by sixteen times its own bytes at most.
-use Rattle.std.proofs.Common.{◌≡◌, ℕ, zero, suc, ◌+◌, ◌*◌, ◌-◌, ◌/◌, ◌%◌, ◌^◌, ◌<◌, ◌≤◌, Bool, true, false, cond, List, [], ◌∷◌, ◌++◌, length, map, Result, Ok, Err, refl, sym, ap, subst, ◌∙◌, arith, length-append, inl, inr}
+use Rattle.std.proofs.Common.{◌≡◌, ℕ, zero, suc, ◌+◌, ◌*◌, ◌-◌, ◌^◌, ◌<◌, ◌≤◌, Bool, true, false, cond, List, [], ◌++◌, length, Result, Ok, Err, refl, sym, ap, subst, ◌∙◌, arith, length-append, inl, inr}
 use Rattle.std.specs.Prelude.{◌==◌}
 use Rattle.std.specs.Int.{w64, to_le_bytes, from_le_bytes}
-use Rattle.std.specs.List.{flat_map}
 use Rattle.std.specs.Str.{is_utf8}
-use Rattle.std.proofs.lemmas.Bool.{cases_eq, eq-eqb, ne_eqb, eqb-true}
-use Rattle.std.proofs.lemmas.Grind.{flat_map-append}
-use Rattle.std.proofs.lemmas.List.{map-append}
+use Rattle.std.proofs.lemmas.Bool.{cases_eq, eq-eqb, ne_eqb}
 use Rattle.schema.specs.Field.{Eight, Field, Long, Payload, Varint, greatest_number}
 use Rattle.schema.specs.Fault.{Fault, NotUtf8, fault_at}
 use Rattle.schema.specs.Steps.{trace}
@@ -16,13 +13,12 @@ use Rattle.schema.specs.Spell.{bytes_field, fixed_field, long_field, number_fiel
 use Rattle.schema.specs.Fits.{Each, FitsNumber}
 use Rattle.schema_laws.proofs.Onto.{varint_at_most, long_len}
 use Rattle.schema_laws.proofs.Traces.{trace_end}
-use Rattle.schema_laws.proofs.Rows.{IsShort, put_one_message, put_many_message, put_one_short, put_many_short}
-use Rattle.schema_laws.proofs.Fixed.{eight_len, fixed_len}
+use Rattle.schema_laws.proofs.Rows.{put_one_message, put_one_short}
+use Rattle.schema_laws.proofs.Fixed.{eight_len}
 use Rattle.schema_laws.proofs.Spelled.{Begins, begins}
-use Rattle.schema_laws.proofs.Packed.{packed_right}
 use Rattle.schema_laws.proofs.RowByRow.{ok_is, bind_ok}
-use Rattle.schema_laws.proofs.Lists.{Octets, each_append, each_left, each_right}
-use Rattle.schema_laws.proofs.Ranges.{number_fits, numbers_fit, fixed_below, eights_fit, PayloadInRange, FieldInRange, field_cost, field_in_range}
+use Rattle.schema_laws.proofs.Lists.{Octets, each_left, each_right}
+use Rattle.schema_laws.proofs.Ranges.{number_fits, fixed_below, PayloadInRange, FieldInRange, field_cost, field_in_range}
 
 -- ---- lengths of fields
 
@@ -46,9 +42,9 @@ fixed_field_len : (n v : ℕ) → n ≤ greatest_number → length (fixed_field 
 unfolding fixed_field
 fixed_field_len n v le = fixed_cases (v == 0)
   where
-  fixed_cases : (t : Bool) → length (cond t [] (varint (n * 8 + 1) ++ to_le_bytes w64 v)) ≤ 18
-  fixed_cases true = omega arith
-  fixed_cases false = eight_field_len n (to_le_bytes w64 v) le (eight_len v)
+    fixed_cases : (t : Bool) → length (cond t [] (varint (n * 8 + 1) ++ to_le_bytes w64 v)) ≤ 18
+    fixed_cases true = omega arith
+    fixed_cases false = eight_field_len n (to_le_bytes w64 v) le (eight_len v)
 
 pub long_field_len : (n : ℕ) (b : List ℕ) → n ≤ greatest_number → length b < 2 ^ 64 → length (long_field n b) ≤ 20 + length b
 long_field_len n b le lt = let a = varint_at_most (n * 8 + 2) (omega arith) in let c = varint_at_most (length b) lt in omega (arith, long_len n b)
@@ -152,8 +148,8 @@ fixed_keeps : (n : ℕ) → n ≤ greatest_number → (p : Payload) (u v : ℕ) 
 fixed_keeps n le (Eight b) u v r i e =
     becomes (λ x. x < 2 ^ 64) (λ x. length (fixed_field n x)) u (from_le_bytes w64 b) v 2 e (fixed_below b r) (fits (from_le_bytes w64 b))
   where
-  fits : (x : ℕ) → length (fixed_field n x) ≤ length (fixed_field n u) + 16 * 2
-  fits x = let l = fixed_field_len n x le in omega arith
+    fits : (x : ℕ) → length (fixed_field n x) ≤ length (fixed_field n u) + 16 * 2
+    fits x = let l = fixed_field_len n x le in omega arith
 fixed_keeps n le p u v r i e = stays (λ x. x < 2 ^ 64) (λ x. length (fixed_field n x)) u v (field_cost p) e i
 
 -- bytes in place of others

@@ -1,8 +1,7 @@
 -- The same for repeated rows, and for whole messages.
-use Rattle.std.proofs.Common.{◌≡◌, ℕ, zero, suc, ◌+◌, ◌*◌, ◌-◌, ◌/◌, ◌%◌, ◌^◌, ◌<◌, ◌≤◌, Bool, true, false, cond, List, [], ◌∷◌, ◌++◌, length, map, Result, Ok, Err, refl, sym, ap, subst, ◌∙◌, arith, length-append, inl, inr}
+use Rattle.std.proofs.Common.{◌≡◌, ℕ, ◌+◌, ◌*◌, ◌-◌, ◌/◌, ◌%◌, ◌^◌, ◌<◌, ◌≤◌, Bool, true, false, cond, List, [], ◌∷◌, ◌++◌, length, map, Result, Ok, Err, refl, sym, ap, subst, ◌∙◌, arith, length-append}
 use Rattle.std.specs.Prelude.{◌==◌}
 use Rattle.std.specs.Int.{w64, to_le_bytes, from_le_bytes}
-use Rattle.std.specs.List.{flat_map}
 use Rattle.std.specs.Str.{is_utf8}
 use Rattle.std.proofs.lemmas.Bool.{eqb-true}
 use Rattle.std.proofs.lemmas.Str.{IsUtf8-nil, is_utf8-from_IsUtf8}
@@ -16,12 +15,12 @@ use Rattle.schema.specs.Merge.{at_place, merge, packed, packed_fixed, put_bytes,
 use Rattle.schema.specs.Spell.{bytes_field, fixed_field, fixed_text, items_text, long_field, number_field, number_to, numbers_text, spell, spell_many, spell_one, varint}
 use Rattle.schema.specs.Fits.{Each, FitsNumber}
 use Rattle.schema_laws.proofs.Onto.{varint_at_most}
-use Rattle.schema_laws.proofs.Rows.{IsShort, put_many_message, put_many_short}
+use Rattle.schema_laws.proofs.Rows.{put_many_message, put_many_short}
 use Rattle.schema_laws.proofs.Fixed.{fixed_len}
 use Rattle.schema_laws.proofs.Packed.{packed_right}
 use Rattle.schema_laws.proofs.RowByRow.{ok_is, bind_ok}
-use Rattle.schema_laws.proofs.Lists.{Octets, each_append}
-use Rattle.schema_laws.proofs.Ranges.{number_fits, numbers_fit, fixed_below, eights_fit, PayloadInRange, FieldInRange, field_cost}
+use Rattle.schema_laws.proofs.Lists.{each_append}
+use Rattle.schema_laws.proofs.Ranges.{number_fits, numbers_fit, fixed_below, eights_fit, PayloadInRange, field_cost}
 use Rattle.schema_laws.proofs.Growth.{long_field_len, bytes_field_len, bytes_field_le, NoneIn, InRange, Grows, stays, becomes, size, Keeps, message_keeps, one_keeps, text_is}
 
 -- the bytes of a packed field, to which others come
@@ -84,8 +83,8 @@ fixed_grow n le us ns vs cost e i j short room =
     becomes Fixeds (λ xs. length (bytes_field n (fixed_text xs))) us (us ++ ns) vs cost e (each_append (λ v. v < 2 ^ 64) us ns i j)
     (packed_grow n le (fixed_text us) (fixed_text ns) (fixed_text (us ++ ns)) cost (flat_map-append (to_le_bytes w64) us ns) (eights (fixed_text ns) (fixed_len ns)) room)
   where
-  eights : (text : List ℕ) → length text ≡ 8 * length ns → 20 + length text ≤ 16 * cost
-  eights text l = omega arith
+    eights : (text : List ℕ) → length text ≡ 8 * length ns → 20 + length text ≤ 16 * cost
+    eights text l = omega arith
 
 whole_is : (t : Bool) (b v : List ℕ) (f : Fault) → (let r : Result (List ℕ) Fault = cond t (Ok b) (Err f) in r ≡ Ok v) → b ≡ v
 whole_is true b v f e = ok_is b v e
@@ -259,15 +258,15 @@ pub keeps : (s : Shape) → Keeps s
 keeps (One n k rest) = let a = keeps k in let b = keeps rest in record {
   keeps = λ at end f u v r i room e.
       let g = row_keeps (InRange k) (InRange rest) (spell_one k (spell k) n) (spell rest) (f.number == n) (put_one k (take_field k) at end f.payload u.0) (take_field rest at end f u.1) u.0 u.1 (field_cost f.payload) v i.0 i.1 room
-          (λ t x room e. one_keeps k a n (subst (λ (m : ℕ). m ≤ greatest_number) (eqb-true f.number n t) r.below) at end f.payload u.0 x r.payload_in i.0 room e)
-          (λ y room e. b.keeps at end f u.1 y r i.1 room e) e in
+      (λ t x room e. one_keeps k a n (subst (λ (m : ℕ). m ≤ greatest_number) (eqb-true f.number n t) r.below) at end f.payload u.0 x r.payload_in i.0 room e)
+      (λ y room e. b.keeps at end f u.1 y r i.1 room e) e in
       ((g.0, g.1), g.2);
 }
 keeps (Many n k rest) = let a = keeps k in let b = keeps rest in record {
   keeps = λ at end f u v r i room e.
       let g = row_keeps (ManyIn k) (InRange rest) (spell_many k (spell k) n) (spell rest) (f.number == n) (put_many k (take_field k) at end f.payload u.0) (take_field rest at end f u.1) u.0 u.1 (field_cost f.payload) v (i.0, i.1) i.2 room
-          (λ t x room e. many_keeps k a (empty_in k) (spells_nothing k) n (subst (λ (m : ℕ). m ≤ greatest_number) (eqb-true f.number n t) r.below) at end f.payload u.0 x r.payload_in (i.0, i.1) room e)
-          (λ y room e. b.keeps at end f u.1 y r i.2 room e) e in
+      (λ t x room e. many_keeps k a (empty_in k) (spells_nothing k) n (subst (λ (m : ℕ). m ≤ greatest_number) (eqb-true f.number n t) r.below) at end f.payload u.0 x r.payload_in (i.0, i.1) room e)
+      (λ y room e. b.keeps at end f u.1 y r i.2 room e) e in
       ((g.0.0, g.0.1, g.1), g.2);
 }
 keeps s = record { keeps = λ at end f u v r i room e. stays (InRange s) (size s) u v (field_cost f.payload) (ok_is u v e) i }

@@ -1,6 +1,6 @@
 -- The last payload that fits: the fold over the payloads against the relation.
-use Rattle.std.proofs.Common.{◌≡◌, ℕ, List, [], ◌∷◌, ◌++◌, refl, sym, ap, ◌∙◌, inl, inr}
-use Rattle.std.specs.Prelude.{Option, Some, None, ◌⊎◌}
+use Rattle.std.proofs.Common.{◌≡◌, List, [], ◌∷◌, ◌++◌, refl, sym, ap, ◌∙◌, inl, inr}
+use Rattle.std.specs.Prelude.{Option, Some, None}
 use Rattle.schema.specs.Field.{Payload}
 use Rattle.schema.specs.Fits.{Each}
 use Rattle.schema.specs.Value.{IsLast}

@@ -1,6 +1,6 @@
 -- The test of a shape says that it is lawful.
 use Rattle.std.proofs.Common.{◌≡◌, ℕ, ◌<◌, ◌^◌, true, false, inl, inr, refl, subst}
-use Rattle.std.specs.Prelude.{nat_lt, ◌==◌, ◌⊎◌, ◌&&◌, ◌||◌, not}
+use Rattle.std.specs.Prelude.{nat_lt, ◌==◌, ◌&&◌, not}
 use Rattle.std.proofs.lemmas.Bool.{eq-eqb, and_parts, ltb-true, not-true, or_left, or_right, both_ways}
 use Rattle.schema.specs.Shape.{Shape, End, One, Many, IsMessage}
 use Rattle.schema.specs.Fits.{HasRow, Lawful, has_row, is_message, is_lawful}

@@ -1,9 +1,9 @@
 -- Spellings that are appended row after row, and their lengths.
 use Rattle.std.proofs.Common.{◌≡◌, ℕ, zero, suc, ◌+◌, ◌*◌, ◌/◌, ◌%◌, ◌^◌, ◌<◌, ◌≤◌, true, false, List, [], ◌∷◌, ◌++◌, length, refl, sym, ap, ◌∙◌, arith, inl, inr, pow-suc, append_assoc, length-append}
-use Rattle.std.specs.Prelude.{nat_lt, ◌⊎◌}
+use Rattle.std.specs.Prelude.{nat_lt}
 use Rattle.std.proofs.lemmas.Bool.{cases_lt, lt-ltb, le-ltb}
 use Rattle.std.proofs.lemmas.List.{append-nil}
-use Rattle.schema.specs.Shape.{Shape, Number, Fixed, Bytes, Text, Any, Index, Unbuilt, End, One, Many, Value}
+use Rattle.schema.specs.Shape.{Shape, One, Many, Value}
 use Rattle.schema.specs.Spell.{varint_upto, varint, spell, spell_one, spell_many, spell_onto, len_onto, long_field}
 
 -- ---- varints

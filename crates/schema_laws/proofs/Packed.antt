@@ -7,7 +7,6 @@ use Rattle.schema.specs.Shape.{Format, NumberValue, number_from}
 use Rattle.schema.specs.Merge.{in_packed, packed, packed_reason, packed_upto}
 use Rattle.schema.specs.Spelling.{SpellsNumbers}
 use Rattle.schema.specs.FirstFault.{BadNumber, BadPacked, too_long, too_short}
-use Rattle.schema.specs.Value.{others}
 use Rattle.schema_laws.proofs.Numbers.{number_read, number_bad, number_found, NumberFound}
 use Rattle.schema_laws.proofs.OneField.{number_some}
 

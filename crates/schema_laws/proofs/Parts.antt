@@ -1,5 +1,5 @@
 -- A singular message that lies in parts.
-use Rattle.std.proofs.Common.{◌≡◌, ℕ, List, [], ◌∷◌, ◌++◌, Result, Ok, Err, refl, sym, ap, subst, ◌∙◌, append_assoc}
+use Rattle.std.proofs.Common.{◌≡◌, List, [], ◌∷◌, ◌++◌, Result, Ok, Err, refl, sym, ap, subst, ◌∙◌}
 use Rattle.schema.specs.Field.{Field}
 use Rattle.schema.specs.Fault.{Fault}
 use Rattle.schema.specs.Steps.{◌>>=◌}

@@ -1,12 +1,12 @@
 -- What is read of bytes lies in its range.
-use Rattle.std.proofs.Common.{◌≡◌, ℕ, zero, suc, ◌+◌, ◌*◌, ◌-◌, ◌/◌, ◌%◌, ◌^◌, ◌<◌, ◌≤◌, Bool, true, false, List, [], ◌∷◌, ◌++◌, length, map, take, drop, refl, sym, ap, subst, ◌∙◌, arith, pow-suc, length-append, length-drop, inl, inr}
-use Rattle.std.specs.Prelude.{ℤ, ◌==◌, not, ◌⊎◌}
+use Rattle.std.proofs.Common.{◌≡◌, ℕ, zero, suc, ◌+◌, ◌*◌, ◌-◌, ◌%◌, ◌^◌, ◌<◌, ◌≤◌, Bool, true, false, List, [], ◌∷◌, ◌++◌, length, map, take, drop, refl, sym, ap, subst, ◌∙◌, arith, pow-suc, length-append, inl, inr}
+use Rattle.std.specs.Prelude.{ℤ, ◌==◌, not}
 use Rattle.std.specs.Int.{w32, w64, cast_signed, cast_unsigned, from_le_bytes}
 use Rattle.std.proofs.Math.Nat.{pow-le-pow_right}
 use Rattle.std.proofs.lemmas.Bool.{cases_eq, cases_lt}
 use Rattle.std.proofs.lemmas.Int.{of_z-to_z, to_z_pos}
 use Rattle.std.proofs.Math.Facts.{to_z-neg}
-use Rattle.std.proofs.lemmas.List.{take-append-drop, length-map}
+use Rattle.std.proofs.lemmas.List.{take-append-drop}
 use Rattle.schema.specs.Field.{Eight, Field, Four, Long, Payload, Varint, greatest_number, wire_type}
 use Rattle.schema.specs.Shape.{Flag, Format, I32, I64, U32, U64, number_from}
 use Rattle.schema.specs.Merge.{fixed_upto}
@@ -65,9 +65,9 @@ number_fits I32 n lt = let b = signed_back (n % 2 ^ 32) (omega arith) in (b.0, a
 number_fits I64 n lt = let e = of_z-to_z w64 n lt in (subst (λ (m : ℕ). m < 2 ^ 64) (sym e) lt, ap (cast_signed w64) e)
 number_fits Flag n lt = flag_fits (n == 0)
   where
-  flag_fits : (t : Bool) → FitsNumber Flag (not t)
-  flag_fits true = (omega arith, refl)
-  flag_fits false = (omega arith, refl)
+    flag_fits : (t : Bool) → FitsNumber Flag (not t)
+    flag_fits true = (omega arith, refl)
+    flag_fits false = (omega arith, refl)
 
 -- the numbers of a packed payload, of which each has a byte at least
 pub numbers_fit : (w : Format) (b ns : List ℕ) → SpellsNumbers b ns → Each (FitsNumber w) (map (number_from w) ns) × (length (map (number_from w) ns) ≤ length b)

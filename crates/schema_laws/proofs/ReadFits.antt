@@ -1,7 +1,6 @@
 -- A value that is read can be written and read again, where the bytes are not too many.
-use Rattle.std.proofs.Common.{◌≡◌, ℕ, ◌+◌, ◌*◌, ◌^◌, ◌<◌, ◌≤◌, true, List, [], ◌∷◌, ◌++◌, length, map, Ok, refl, sym, ap, subst, ◌∙◌, arith, length-append}
+use Rattle.std.proofs.Common.{◌≡◌, ℕ, ◌+◌, ◌*◌, ◌^◌, ◌<◌, List, [], ◌∷◌, length, Ok, refl, ap, subst, arith, length-append}
 use Rattle.std.specs.List.{flat_map}
-use Rattle.std.specs.Str.{is_utf8}
 use Rattle.std.proofs.lemmas.List.Folds.{flat_map-map}
 use Rattle.schema.specs.Shape.{Any, Bytes, End, Fixed, I32, Index, IsMessage, Many, Number, One, Shape, Text, Unbuilt, Value, empty}
 use Rattle.schema.specs.Merge.{Part, merge, merge_all}
@@ -10,7 +9,7 @@ use Rattle.schema.specs.Fits.{Each, Fits, FitsTogether, Lawful}
 use Rattle.schema.specs.Value.{joined}
 use Rattle.schema_laws.proofs.RowByRow.{ok_is, bind_ok}
 use Rattle.schema_laws.proofs.Lists.{Octets, each_left, each_right}
-use Rattle.schema_laws.proofs.Growth.{long_field_le, bytes_field_le, NoneIn, InRange, Grows, size, message_keeps}
+use Rattle.schema_laws.proofs.Growth.{long_field_le, bytes_field_le, InRange, size, message_keeps}
 use Rattle.schema_laws.proofs.GrowthOfLists.{ManyIn, spells_nothing, empty_in, keeps}
 
 -- what the law says of a message that is a part
@@ -32,7 +31,7 @@ each_short text n P Q h [] i short = tt
 each_short {A} text n P Q h (x ∷ xs) i short =
     let l = long_field_le n (text x) in
     let s : length (long_field n (text x)) + length (flat_map (λ (y : A). long_field n (text y)) xs) < 2 ^ 64 =
-        subst (λ (m : ℕ). m < 2 ^ 64) (length-append (long_field n (text x)) (flat_map (λ (y : A). long_field n (text y)) xs)) short in
+    subst (λ (m : ℕ). m < 2 ^ 64) (length-append (long_field n (text x)) (flat_map (λ (y : A). long_field n (text y)) xs)) short in
     (h x i.0 (omega arith), each_short text n P Q h xs i.1 (omega arith))
 
 one_fits : (k : Shape) (n : ℕ) (x : Value k) → InRange k x → length (spell_one k (spell k) n x) < 2 ^ 64 → (IsMessage k → FitsSmall k) → FitsItem k x
@@ -58,15 +57,17 @@ many_fits (Number w) n xs i short h = let l = bytes_field_le n (numbers_text w x
 many_fits (Index T entry) n xs i short h = let l = bytes_field_le n (numbers_text I32 xs) in (leaves (Index T entry) xs i.0 (λ x. refl), omega arith)
 many_fits Fixed n xs i short h = (leaves Fixed xs i.0 (λ x. refl), fixed_short (fixed_text xs) short)
   where
-  fixed_short : (b : List ℕ) → length (bytes_field n b) < 2 ^ 64 → length b < 2 ^ 64
-  fixed_short b s = let l = bytes_field_le n b in omega arith
+    fixed_short : (b : List ℕ) → length (bytes_field n b) < 2 ^ 64 → length b < 2 ^ 64
+    fixed_short b s = let l = bytes_field_le n b in omega arith
 many_fits Bytes n xs i short h = (each_short (λ b. b) n (InRange Bytes) (FitsItem Bytes) (λ x r s. (s, omega arith)) xs i.0 short, tt)
 many_fits Text n xs i short h = (each_short (λ b. b) n (InRange Text) (FitsItem Text) (λ x r s. ((r, s), omega arith)) xs i.0 short, tt)
 many_fits (Any depth) n xs i short h = (leaves (Any depth) xs i.0 (λ x. refl), i.1)
 many_fits (Unbuilt k) n xs i short h = (leaves (Unbuilt k) xs i.0 (λ x. refl), i.1)
-many_fits k n xs i short h =
-    (each_short (spell k) n (InRange k) (FitsItem k) (λ x r s. (h tt x r s, s)) xs i.0
-    (subst (λ (t : List ℕ). length t < 2 ^ 64) (flat_map-map (long_field n) (spell k) xs) short), tt)
+many_fits k n xs i short h = (
+  each_short (spell k) n (InRange k) (FitsItem k) (λ x r s. (h tt x r s, s)) xs i.0
+      (subst (λ (t : List ℕ). length t < 2 ^ 64) (flat_map-map (long_field n) (spell k) xs) short),
+  tt,
+)
 
 -- a value in its range whose spelling is short fits
 pub fits_from : (s : Shape) → IsMessage s → Lawful s → FitsSmall s

@@ -1,5 +1,5 @@
 -- A value is read exactly where the bytes spell fields without a fault, and it is their value row by row.
-use Rattle.std.proofs.Common.{◌≡◌, ℕ, List, [], ◌∷◌, ◌++◌, Result, Ok, Err, refl, sym, ap, ◌∙◌}
+use Rattle.std.proofs.Common.{◌≡◌, ℕ, List, [], ◌∷◌, ◌++◌, Result, Ok, refl, sym, ap, ◌∙◌}
 use Rattle.std.proofs.lemmas.List.{append-nil}
 use Rattle.schema.specs.Field.{Field}
 use Rattle.schema.specs.Fault.{Fault}

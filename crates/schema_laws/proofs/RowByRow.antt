@@ -12,7 +12,7 @@ use Rattle.schema.specs.Shape.{Any, Bytes, Fixed, Format, I32, Index, IsMessage,
 use Rattle.schema.specs.Merge.{at_place, merge, one_bytes, one_fixed, one_number, one_text, packed, packed_fixed, put_bytes, put_fixed, put_many, put_numbers, put_one, put_texts, run, take_field, text_of}
 use Rattle.schema.specs.Value.{bytes_in, fixed_in, number_in, of_number, others}
 use Rattle.schema_laws.proofs.Traces.{fields}
-use Rattle.schema_laws.proofs.Rows.{IsShort, put_one_message, put_many_message, put_one_short, put_many_short}
+use Rattle.schema_laws.proofs.Rows.{put_one_message, put_many_message, put_one_short, put_many_short}
 
 -- ---- the value
 

@@ -1,11 +1,11 @@
 -- An occurrence of a row, by the row's shape.
-use Rattle.std.proofs.Common.{◌≡◌, ℕ, zero, suc, ◌+◌, ◌-◌, ◌*◌, ◌/◌, ◌%◌, ◌<◌, ◌≤◌, List, [], ◌∷◌, ◌++◌, length, take, drop, Result, Ok, Err, refl, sym, ap, ◌∙◌, arith, append_assoc}
+use Rattle.std.proofs.Common.{◌≡◌, ℕ, zero, suc, ◌-◌, ◌/◌, ◌<◌, ◌≤◌, List, [], ◌∷◌, ◌++◌, length, take, drop, Result, Ok, Err, refl, sym, ap, ◌∙◌, arith, append_assoc}
 use Rattle.std.specs.Int.{w64, from_le_bytes}
 use Rattle.std.proofs.lemmas.List.{append-nil}
-use Rattle.schema.specs.Field.{Payload, Varint, Eight, Long, Four, Field}
+use Rattle.schema.specs.Field.{Payload, Long, Field}
 use Rattle.schema.specs.Fault.{Reason, Fault, fault_at}
 use Rattle.schema.specs.Steps.{◌>>=◌, varint_at, trace}
-use Rattle.schema.specs.Shape.{Shape, Number, Fixed, Bytes, Text, Any, Index, Unbuilt, End, One, Many, Format, NumberValue, Value, IsMessage, empty, number_from}
+use Rattle.schema.specs.Shape.{Shape, End, One, Many, Format, NumberValue, Value, IsMessage, empty, number_from}
 use Rattle.schema.specs.Merge.{run, put_one, put_many, packed_upto, packed, put_packed, in_packed, packed_reason, at_place, fixed_upto, packed_fixed}
 use Rattle.schema_laws.proofs.Sizes.{Leaves, varint_leaves, number_size}
 

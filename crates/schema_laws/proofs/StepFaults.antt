@@ -7,7 +7,6 @@ use Rattle.schema.specs.Merge.{run}
 use Rattle.schema.specs.Fits.{Each}
 use Rattle.schema.specs.Spelling.{Spells, SpellsField}
 use Rattle.schema.specs.FirstFault.{BadField, FirstFault, Sound, WrongAt}
-use Rattle.schema.specs.Value.{others}
 use Rattle.schema_laws.proofs.Traces.{trace_end, fields}
 use Rattle.schema_laws.proofs.Spelled.{Begins, begins, trace_one, trace_bad}
 
