@@ -15,14 +15,12 @@ use Rattle.schema.specs.Shape.{Shape, Number, Fixed, Bytes, Text, Any, Index, Un
 use Rattle.schema.specs.Merge.{run, merge, put_one, put_many, put_packed, put_fixed, packed, packed_fixed, at_place, text_of, take_field}
 use Rattle.schema.specs.Spell.{varint, number_to, number_field, fixed_field, long_field, bytes_field, spell, spell_one, spell_many, items_text, numbers_text, fixed_text}
 use Rattle.schema.specs.Fits.{Each, HasRow, Lawful, FitsNumber, FitsTogether, Fits}
+use Rattle.schema_laws.proofs.Results.{ok_is, map_same, map_map}
 use Rattle.schema_laws.proofs.Onto.{varint_some, long_some}
 use Rattle.schema_laws.proofs.Traces.{run_field, run_end}
 use Rattle.schema_laws.proofs.Rows.{put_one_message, put_many_message, packed_by, packed_is, packed_nothing, fixed_nothing}
 use Rattle.schema_laws.proofs.Front.{varint_again, number_again, eight_again, long_again}
 use Rattle.schema_laws.proofs.Fixed.{eight_len, fixed_whole, fixed_again}
-
-ok_is : {A : Type 0} (x y : A) → (let r : Result A Fault = Ok x in let q : Result A Fault = Ok y in r ≡ q) → x ≡ y
-ok_is x y e = cc
 
 -- ---- a step over a text
 
@@ -108,14 +106,6 @@ from_zero I32 = refl
 from_zero I64 = refl
 from_zero Flag = refl
 
-bind_ok : {A : Type 0} (r : Result A Fault) → r ≡ (r >>= λ w. Ok w)
-bind_ok (Ok x) = refl
-bind_ok (Err e) = refl
-
-bind_assoc : {A B C : Type 0} (r : Result A Fault) (f : A → B) (g : B → C) → ((r >>= λ x. Ok (f x)) >>= λ y. Ok (g y)) ≡ (r >>= λ x. Ok (g (f x)))
-bind_assoc (Ok x) f g = refl
-bind_assoc (Err e) f g = refl
-
 text_again : (at : ℕ) (b : List ℕ) → is_utf8 b ≡ true → text_of at b ≡ Ok b
 text_again at b e = cond-true (is_utf8 b) (Ok b) (Err (fault_at at NotUtf8)) e
 
@@ -171,16 +161,13 @@ packed_again w P good (v ∷ vs) fits =
     ∙ ap (λ (r : Result (List (NumberValue w)) Reason). r >>= λ ns. Ok (number_from w (number_to w v) ∷ ns)) (packed_again w P good vs fits.1)
     ∙ ap (λ (x : NumberValue w). Ok (x ∷ vs)) g.1
 
-reason_ok : {A : Type 0} (x y : A) → (let r : Result A Reason = Ok x in let q : Result A Reason = Ok y in r ≡ q) → x ≡ y
-reason_ok x y e = cc
-
 numbers_row : (w : Format) {S : Type 0} (step : Step S) (inject : List (NumberValue w) → S) (base n : ℕ) (vs : List (NumberValue w)) (text : List ℕ) → 0 < n → n < 2 ^ 29
     → packed w (numbers_text w vs) ≡ Ok vs → length (numbers_text w vs) < 2 ^ 64
     → ((end : ℕ) → step base end (record { number = n; payload = Long (numbers_text w vs) }) (inject []) ≡ (put_packed w base (numbers_text w vs) [] >>= λ y. Ok (inject y)))
     → Passes step (inject []) (inject vs) base (bytes_field n (numbers_text w vs)) text
 numbers_row w step inject base n vs text some few again small takes =
     bytes_row step (inject []) (inject vs) base n (numbers_text w vs) text some few small
-    (λ e. ap inject (reason_ok [] vs (sym (packed_nothing w) ∙ ap (packed w) (sym e) ∙ again)))
+    (λ e. ap inject (ok_is [] vs (sym (packed_nothing w) ∙ ap (packed w) (sym e) ∙ again)))
     (λ end. takes end ∙ ap (λ (r : Result (List (NumberValue w)) Reason). (at_place base r >>= λ ns. Ok ([] ++ ns)) >>= λ y. Ok (inject y)) again)
 
 fixed_packed : (at : ℕ) (vs : List ℕ) → packed_fixed (fixed_text vs) ≡ vs → put_fixed at (Long (fixed_text vs)) [] ≡ Ok vs
@@ -255,12 +242,12 @@ row_many k step inject base n xs text some few fits small again takes = messages
 -- a row whose number is that of the field takes it
 linked_here : {A B C S : Type 0} (n : ℕ) (r : Result A Fault) (q : Result B Fault) (h : A → C) (i : B → C) (inject : C → S)
     → (cond (n == n) (r >>= λ x. Ok (h x)) (q >>= λ x. Ok (i x)) >>= λ w. Ok (inject w)) ≡ (r >>= λ x. Ok (inject (h x)))
-linked_here n r q h i inject = let e : (n == n) ≡ true = eq-eqb n n refl in rw e (bind_assoc r h inject)
+linked_here n r q h i inject = let e : (n == n) ≡ true = eq-eqb n n refl in rw e (map_map r h inject)
 
 -- and a row of another number leaves it to the rows behind it
 linked_there : {A B C S : Type 0} (m n : ℕ) (r : Result A Fault) (q : Result B Fault) (h : A → C) (i : B → C) (inject : C → S) → (m ≡ n → ⊥)
     → (cond (m == n) (r >>= λ x. Ok (h x)) (q >>= λ x. Ok (i x)) >>= λ w. Ok (inject w)) ≡ (q >>= λ x. Ok (inject (i x)))
-linked_there m n r q h i inject ne = let e : (m == n) ≡ false = ne_eqb m n ne in rw e (bind_assoc q i inject)
+linked_there m n r q h i inject ne = let e : (m == n) ≡ false = ne_eqb m n ne in rw e (map_map q i inject)
 
 -- the step takes the fields of the rows of s into the part of its state that inject says
 abbrev Links : {S : Type 0} → (s : Shape) → Step S → (Value s → S) → Type 0
@@ -275,7 +262,7 @@ Round s = (S : Type 0) (step : Step S) (inject : Value s → S) → Links s step
 again_of : (s : Shape) → Round s → ReadAgain s
 again_of s round v fits base =
     ap (λ (y : List ℕ). run (take_field s) (empty s) (trace base y)) (sym (append-nil (spell s v)))
-    ∙ round (Value s) (take_field s) (λ u. u) (λ at end f u h. bind_ok (take_field s at end f u)) v fits base []
+    ∙ round (Value s) (take_field s) (λ u. u) (λ at end f u h. map_same (take_field s at end f u)) v fits base []
     ∙ run_end (take_field s) v (base + length (spell s v)) [] refl
 
 -- What is spelled is read, whatever follows it, as a part of a greater message.

@@ -11,12 +11,12 @@ use Rattle.schema.specs.Shape.{Any, Bytes, Fixed, Format, I32, Index, IsMessage,
 use Rattle.schema.specs.Merge.{merge, one_bytes, one_fixed, one_number, one_text, put_one, run, take_field}
 use Rattle.schema.specs.Spell.{bytes_field, fixed_field, long_field, number_field, number_to, spell, spell_one, varint}
 use Rattle.schema.specs.Fits.{Each, FitsNumber}
+use Rattle.schema_laws.proofs.Results.{ok_is, bind_ok, checked_ok}
 use Rattle.schema_laws.proofs.Onto.{varint_at_most, long_len}
 use Rattle.schema_laws.proofs.Traces.{trace_end}
 use Rattle.schema_laws.proofs.Rows.{put_one_message, put_one_short}
 use Rattle.schema_laws.proofs.Fixed.{eight_len}
 use Rattle.schema_laws.proofs.Spelled.{Begins, begins}
-use Rattle.schema_laws.proofs.RowByRow.{ok_is, bind_ok}
 use Rattle.schema_laws.proofs.Lists.{Octets, each_left, each_right}
 use Rattle.schema_laws.proofs.Ranges.{number_fits, fixed_below, PayloadInRange, FieldInRange, field_cost, field_in_range}
 
@@ -161,14 +161,10 @@ bytes_keep : (In : List ℕ → Type 0) (n : ℕ) → n ≤ greatest_number → 
 bytes_keep In n le (Long b) u v i room e j = becomes In (λ x. length (bytes_field n x)) u b v (length b + 2) e (subst In (sym e) j) (bytes_grow n le u b room)
 bytes_keep In n le p u v i room e j = stays In (λ x. length (bytes_field n x)) u v (field_cost p) e i
 
-pub text_is : (t : Bool) (b v : List ℕ) (f : Fault) → (let r : Result (List ℕ) Fault = cond t (Ok b) (Err f) in r ≡ Ok v) → (t ≡ true) × (b ≡ v)
-text_is true b v f e = (refl, ok_is b v e)
-text_is false b v f e = absurd cc
-
 text_keeps : (n : ℕ) → n ≤ greatest_number → (at : ℕ) (p : Payload) (u v : List ℕ) → is_utf8 u ≡ true → length (bytes_field n u) + 16 * field_cost p < 2 ^ 64
     → one_text at p u ≡ Ok v → Grows (λ x. is_utf8 x ≡ true) (λ x. length (bytes_field n x)) u (field_cost p) v
 text_keeps n le at (Long b) u v i room e =
-    let t = text_is (is_utf8 b) b v (fault_at at NotUtf8) e in
+    let t = checked_ok (is_utf8 b) b v (fault_at at NotUtf8) e in
     bytes_keep (λ x. is_utf8 x ≡ true) n le (Long b) u v i room t.1 (ap is_utf8 (sym t.1) ∙ t.0)
 text_keeps n le at p u v i room e = stays (λ x. is_utf8 x ≡ true) (λ x. length (bytes_field n x)) u v (field_cost p) (ok_is u v e) i
 

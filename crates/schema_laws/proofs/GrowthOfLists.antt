@@ -14,14 +14,14 @@ use Rattle.schema.specs.Shape.{Any, Bytes, Fixed, Flag, Format, I32, I64, Index,
 use Rattle.schema.specs.Merge.{at_place, merge, packed, packed_fixed, put_bytes, put_fixed, put_many, put_numbers, put_one, put_texts, take_field, text_of}
 use Rattle.schema.specs.Spell.{bytes_field, fixed_field, fixed_text, items_text, long_field, number_field, number_to, numbers_text, spell, spell_many, spell_one, varint}
 use Rattle.schema.specs.Fits.{Each, FitsNumber}
+use Rattle.schema_laws.proofs.Results.{ok_is, bind_ok, checked_ok, refused_ok}
 use Rattle.schema_laws.proofs.Onto.{varint_at_most}
 use Rattle.schema_laws.proofs.Rows.{put_many_message, put_many_short}
 use Rattle.schema_laws.proofs.Fixed.{fixed_len}
 use Rattle.schema_laws.proofs.Packed.{packed_right}
-use Rattle.schema_laws.proofs.RowByRow.{ok_is, bind_ok}
 use Rattle.schema_laws.proofs.Lists.{each_append}
 use Rattle.schema_laws.proofs.Ranges.{number_fits, numbers_fit, fixed_below, eights_fit, PayloadInRange, field_cost}
-use Rattle.schema_laws.proofs.Growth.{long_field_len, bytes_field_len, bytes_field_le, NoneIn, InRange, Grows, stays, becomes, size, Keeps, message_keeps, one_keeps, text_is}
+use Rattle.schema_laws.proofs.Growth.{long_field_len, bytes_field_len, bytes_field_le, NoneIn, InRange, Grows, stays, becomes, size, Keeps, message_keeps, one_keeps}
 
 -- the bytes of a packed field, to which others come
 packed_grow : (n : ℕ) → n ≤ greatest_number → (a b c : List ℕ) (cost : ℕ) → c ≡ a ++ b → 20 + length b ≤ 16 * cost → length (bytes_field n a) + 16 * cost < 2 ^ 64
@@ -86,17 +86,13 @@ fixed_grow n le us ns vs cost e i j short room =
     eights : (text : List ℕ) → length text ≡ 8 * length ns → 20 + length text ≤ 16 * cost
     eights text l = omega arith
 
-whole_is : (t : Bool) (b v : List ℕ) (f : Fault) → (let r : Result (List ℕ) Fault = cond t (Ok b) (Err f) in r ≡ Ok v) → b ≡ v
-whole_is true b v f e = ok_is b v e
-whole_is false b v f e = absurd cc
-
 fixed_keep : (n : ℕ) → n ≤ greatest_number → (at : ℕ) (p : Payload) (us vs : List ℕ) → PayloadInRange p → Fixeds us
     → length (bytes_field n (fixed_text us)) + 16 * field_cost p < 2 ^ 64 → put_fixed at p us ≡ Ok vs → Grows Fixeds (λ xs. length (bytes_field n (fixed_text xs))) us (field_cost p) vs
 fixed_keep n le at (Eight b) us vs r i room e = fixed_grow n le us (from_le_bytes w64 b ∷ []) vs 2 (ok_is (us ++ from_le_bytes w64 b ∷ []) vs e) i (fixed_below b r, tt) (omega arith) room
 fixed_keep n le at (Long b) us vs r i room e =
     let f = eights_fit (length b / 8) b r in
     let len : length (packed_fixed b) ≡ length b / 8 = f.1 in
-    fixed_grow n le us (packed_fixed b) vs (length b + 2) (whole_is (length b % 8 == 0) (us ++ packed_fixed b) vs (fault_at at PackedLength) e) i f.0 (omega arith) room
+    fixed_grow n le us (packed_fixed b) vs (length b + 2) (checked_ok (length b % 8 == 0) (us ++ packed_fixed b) vs (fault_at at PackedLength) e).1 i f.0 (omega arith) room
 fixed_keep n le at p us vs r i room e = stays Fixeds (λ xs. length (bytes_field n (fixed_text xs))) us vs (field_cost p) (ok_is us vs e) i
 
 -- ---- bytes and texts
@@ -116,7 +112,7 @@ texts_keep : (n : ℕ) → n ≤ greatest_number → (at : ℕ) (p : Payload) (u
     → Grows (Each (InRange Text)) (λ xs. length (items_text n xs)) us (field_cost p) vs
 texts_keep n le at (Long b) us vs i room e =
     let r = bind_ok (text_of at b) (λ (t : List ℕ). Ok (us ++ t ∷ [])) vs e in
-    let t = text_is (is_utf8 b) b r.0 (fault_at at NotUtf8) r.1 in
+    let t = checked_ok (is_utf8 b) b r.0 (fault_at at NotUtf8) r.1 in
     items_grow (InRange Text) n le us vs b (ap (λ (x : List ℕ). us ++ x ∷ []) t.1 ∙ ok_is (us ++ r.0 ∷ []) vs r.2) i t.0 (omega arith)
 texts_keep n le at p us vs i room e = stays (Each (InRange Text)) (λ xs. length (items_text n xs)) us vs (field_cost p) (ok_is us vs e) i
 
@@ -145,10 +141,6 @@ also : {A : Type 0} (P : List A → Type 0) (length_of : List A → ℕ) (us : L
     → (P vs × Unit {0}) × (length_of vs ≤ length_of us + 16 * cost)
 also P length_of us cost vs g = ((g.0, tt), g.1)
 
-refused_is : {A : Type 0} (t : Bool) (u v : A) (f : Fault) → (let r : Result A Fault = cond t (Err f) (Ok u) in r ≡ Ok v) → u ≡ v
-refused_is true u v f e = absurd cc
-refused_is false u v f e = ok_is u v e
-
 many_keeps : (k : Shape) → Keeps k → InRange k (empty k) → spell k (empty k) ≡ [] → (n : ℕ) → n ≤ greatest_number → (at end : ℕ) (p : Payload) (us vs : List (Value k)) → PayloadInRange p → ManyIn k us
     → length (spell_many k (spell k) n us) + 16 * field_cost p < 2 ^ 64 → put_many k (take_field k) at end p us ≡ Ok vs
     → Grows (ManyIn k) (λ xs. length (spell_many k (spell k) n xs)) us (field_cost p) vs
@@ -158,9 +150,9 @@ many_keeps Fixed keep start nothing n le at end p us vs r i room e = also Fixeds
 many_keeps Bytes keep start nothing n le at end p us vs r i room e = also (Each (InRange Bytes)) (λ xs. length (items_text n xs)) us (field_cost p) vs (bytes_keep n le p us vs i.0 room (ok_is (put_bytes p us) vs e))
 many_keeps Text keep start nothing n le at end p us vs r i room e = also (Each (InRange Text)) (λ xs. length (items_text n xs)) us (field_cost p) vs (texts_keep n le at p us vs i.0 room e)
 many_keeps (Any depth) keep start nothing n le at end p us vs r i room e =
-    stays (ManyIn (Any depth)) (λ xs. 0) us vs (field_cost p) (refused_is (fits_many (Any depth) p) us vs (fault_at at NotBuilt) e) i
+    stays (ManyIn (Any depth)) (λ xs. 0) us vs (field_cost p) (refused_ok (fits_many (Any depth) p) us vs (fault_at at NotBuilt) e) i
 many_keeps (Unbuilt k) keep start nothing n le at end p us vs r i room e =
-    stays (ManyIn (Unbuilt k)) (λ xs. 0) us vs (field_cost p) (refused_is (fits_many k p) us vs (fault_at at NotBuilt) e) i
+    stays (ManyIn (Unbuilt k)) (λ xs. 0) us vs (field_cost p) (refused_ok (fits_many k p) us vs (fault_at at NotBuilt) e) i
 many_keeps k keep start nothing n le at end p us vs r i room e =
     also (Each (InRange k)) (λ xs. length (items_text n (map (spell k) xs))) us (field_cost p) vs (many_message k tt keep start nothing n le at end p us vs r i.0 room e)
 

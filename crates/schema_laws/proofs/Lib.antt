@@ -1,3 +1,4 @@
+pub mod Results
 pub mod Onto
 pub mod Sizes
 pub mod Traces

@@ -7,6 +7,7 @@ use Rattle.schema.specs.Shape.{Format, NumberValue, number_from}
 use Rattle.schema.specs.Merge.{in_packed, packed, packed_reason, packed_upto}
 use Rattle.schema.specs.Spelling.{SpellsNumbers}
 use Rattle.schema.specs.FirstFault.{BadNumber, BadPacked, too_long, too_short}
+use Rattle.schema_laws.proofs.Results.{err_is, ok_is, map_err, map_ok}
 use Rattle.schema_laws.proofs.Numbers.{number_read, number_bad, number_found, NumberFound}
 use Rattle.schema_laws.proofs.OneField.{number_some}
 
@@ -17,26 +18,19 @@ wrong_number : (bytes : List ℕ) (r : Reason) → BadNumber bytes r → WrongNu
 wrong_number bytes _ (too_short le go) = inl (too_short le go, refl)
 wrong_number bytes _ (too_long front tenth rest e len go two) = inr (too_long front tenth rest e len go two, refl)
 
-err_reason : {A : Type 0} (x y : Reason) → (let r : Result A Reason = Err x in let q : Result A Reason = Err y in r ≡ q) → x ≡ y
-err_reason x y e = cc
-
 abbrev then : (w : Format) → ℕ → Result (ℕ × List ℕ) Reason → Result (List (NumberValue w)) Reason
 then w k n = in_packed n >>= λ n. packed_upto w k n.1 >>= λ ns. Ok (number_from w n.0 ∷ ns)
-
-bind_err : {A B : Type 0} (r : Result A Reason) (h : A → B) (e : Reason) → (r >>= λ x. Ok (h x)) ≡ Err e → r ≡ Err e
-bind_err (Ok x) h e p = absurd cc
-bind_err (Err d) h e p = let q : d ≡ e = cc in ap (λ (x : Reason). Err x) q
 
 found_one : (w : Format) (k : ℕ) (bytes : List ℕ) (r : Reason) → 0 < length bytes → (n : Result (ℕ × List ℕ) Reason) → NumberFound bytes n
     → ((rest : List ℕ) → length rest < length bytes → packed_upto w k rest ≡ Err r → BadPacked rest r)
     → then w k n ≡ Err r → BadPacked bytes r
 found_one w k bytes r lt (Err d) b ih e =
-    let q : packed_reason d ≡ r = err_reason {A = List (NumberValue w)} (packed_reason d) r e in
+    let q : packed_reason d ≡ r = err_is {A = List (NumberValue w)} (packed_reason d) r e in
     record { before = []; after = bytes; numbers = []; is = refl; right = refl; more = lt; wrong = subst (WrongNumber bytes) q (wrong_number bytes d b) }
 found_one w k bytes r lt (Ok x) s ih e =
     let one = s.0 in
     let some = number_some one x.0 s.2 in
-    let b = ih x.1 (omega (arith, ap length s.1, length-append one x.1)) (bind_err (packed_upto w k x.1) (λ (ns : List (NumberValue w)). number_from w x.0 ∷ ns) r e) in
+    let b = ih x.1 (omega (arith, ap length s.1, length-append one x.1)) (map_err (packed_upto w k x.1) (λ (ns : List (NumberValue w)). number_from w x.0 ∷ ns) r e) in
     record {
       before = one ++ b.before;
       after = b.after;
@@ -86,13 +80,6 @@ packed_bad w bytes r b = ap (packed w) b.is ∙ bad_upto w b.numbers (length (b.
 
 -- ---- what is right
 
-number_from_ok : {A : Type 0} (x y : A) → (let r : Result A Reason = Ok x in let q : Result A Reason = Ok y in r ≡ q) → x ≡ y
-number_from_ok x y e = cc
-
-bind_right : {A B : Type 0} (r : Result A Reason) (h : A → B) (y : B) → (r >>= λ x. Ok (h x)) ≡ Ok y → (x : A) × (r ≡ Ok x) × (h x ≡ y)
-bind_right {B = B} (Ok x) h y p = (x, refl, number_from_ok {A = B} (h x) y p)
-bind_right (Err d) h y p = absurd cc
-
 abbrev Right : (w : Format) → List ℕ → List (NumberValue w) → Type 0
 Right w bytes vs = (ns : List ℕ) × SpellsNumbers bytes ns × (vs ≡ map (number_from w) ns)
 
@@ -103,15 +90,15 @@ right_one w k bytes vs (Err d) b ih e = absurd cc
 right_one w k bytes vs (Ok x) s ih e =
     let one = s.0 in
     let some = number_some one x.0 s.2 in
-    let p = bind_right (packed_upto w k x.1) (λ (ns : List (NumberValue w)). number_from w x.0 ∷ ns) vs e in
+    let p = map_ok (packed_upto w k x.1) (λ (ns : List (NumberValue w)). number_from w x.0 ∷ ns) vs e in
     let b = ih x.1 p.0 (omega (arith, ap length s.1, length-append one x.1)) p.1 in
     (x.0 ∷ b.0, (one, x.1, s.1, s.2, b.1), sym p.2 ∙ ap (λ (l : List (NumberValue w)). number_from w x.0 ∷ l) b.2)
 
 right_upto : (w : Format) (k : ℕ) (bytes : List ℕ) (vs : List (NumberValue w)) → length bytes ≤ k → packed_upto w k bytes ≡ Ok vs → Right w bytes vs
 unfolding packed_upto
-right_upto w zero [] vs le e = ([], refl, sym (number_from_ok {A = List (NumberValue w)} [] vs e))
+right_upto w zero [] vs le e = ([], refl, sym (ok_is {A = List (NumberValue w)} [] vs e))
 right_upto w zero (b ∷ bytes) vs le e = absurd (omega arith)
-right_upto w (suc k) [] vs le e = ([], refl, sym (number_from_ok {A = List (NumberValue w)} [] vs e))
+right_upto w (suc k) [] vs le e = ([], refl, sym (ok_is {A = List (NumberValue w)} [] vs e))
 right_upto w (suc k) (b ∷ bytes) vs le e = right_one w k (b ∷ bytes) vs (varint_at 9 (b ∷ bytes)) (number_found (b ∷ bytes)) (λ rest us lt q. right_upto w k rest us (omega arith) q) e
 
 pub packed_right : (w : Format) (bytes : List ℕ) (vs : List (NumberValue w)) → packed w bytes ≡ Ok vs → Right w bytes vs
@@ -128,7 +115,7 @@ one_numbers bytes [] [] a b = refl
 one_numbers bytes [] (m ∷ ms) a b = absurd (none_left bytes m ms a b)
 one_numbers bytes (n ∷ ns) [] a b = absurd (none_left bytes n ns b a)
 one_numbers bytes (n ∷ ns) (m ∷ ms) a b =
-    let both = number_from_ok {A = ℕ × List ℕ} (n, a.1) (m, b.1) (sym (number_at bytes n ns a) ∙ number_at bytes m ms b) in
+    let both = ok_is {A = ℕ × List ℕ} (n, a.1) (m, b.1) (sym (number_at bytes n ns a) ∙ number_at bytes m ms b) in
     let same = ap (λ (x : ℕ × List ℕ). x.0) both in
     let left = ap (λ (x : ℕ × List ℕ). x.1) both in
     let ih = one_numbers b.1 ns ms (subst (λ (y : List ℕ). SpellsNumbers y ns) left a.4) b.4 in

@@ -11,7 +11,8 @@ use Rattle.schema.specs.FirstFault.{FieldFault, HasFault, HasFaultInParts, Sound
 use Rattle.schema.specs.Value.{IsReadInParts, SpellsEach, joined}
 use Rattle.schema_laws.proofs.Spelled.{spells_append}
 use Rattle.schema_laws.proofs.Agrees.{merge_err, merge_fault, merge_ok, merge_sound}
-use Rattle.schema_laws.proofs.RowByRow.{value, value_nil, ok_is, bind_ok}
+use Rattle.schema_laws.proofs.Results.{ok_is, bind_ok}
+use Rattle.schema_laws.proofs.RowByRow.{value, value_nil}
 use Rattle.schema_laws.proofs.ReadValue.{value_then, value_from, sound_read}
 use Rattle.schema_laws.proofs.SameValue.{same}
 use Rattle.schema_laws.proofs.Lists.{each_append, each_left, each_right}

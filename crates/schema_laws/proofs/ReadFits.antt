@@ -7,7 +7,7 @@ use Rattle.schema.specs.Merge.{Part, merge, merge_all}
 use Rattle.schema.specs.Spell.{bytes_field, fixed_text, long_field, numbers_text, spell, spell_many, spell_one}
 use Rattle.schema.specs.Fits.{Each, Fits, FitsTogether, Lawful}
 use Rattle.schema.specs.Value.{joined}
-use Rattle.schema_laws.proofs.RowByRow.{ok_is, bind_ok}
+use Rattle.schema_laws.proofs.Results.{ok_is, bind_ok}
 use Rattle.schema_laws.proofs.Lists.{Octets, each_left, each_right}
 use Rattle.schema_laws.proofs.Growth.{long_field_le, bytes_field_le, InRange, size, message_keeps}
 use Rattle.schema_laws.proofs.GrowthOfLists.{ManyIn, spells_nothing, empty_in, keeps}

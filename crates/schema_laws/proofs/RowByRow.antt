@@ -11,6 +11,7 @@ use Rattle.schema.specs.Steps.{Bad, Done, Met, Trace, field_at, met, trace, trac
 use Rattle.schema.specs.Shape.{Any, Bytes, Fixed, Format, I32, Index, IsMessage, Many, Number, NumberValue, One, Shape, Text, Unbuilt, Value, empty, fits_many, number_from}
 use Rattle.schema.specs.Merge.{at_place, merge, one_bytes, one_fixed, one_number, one_text, packed, packed_fixed, put_bytes, put_fixed, put_many, put_numbers, put_one, put_texts, run, take_field, text_of}
 use Rattle.schema.specs.Value.{bytes_in, fixed_in, number_in, of_number, others}
+use Rattle.schema_laws.proofs.Results.{ok_is, bind_ok, checked_ok, refused_ok}
 use Rattle.schema_laws.proofs.Traces.{fields}
 use Rattle.schema_laws.proofs.Rows.{put_one_message, put_many_message, put_one_short, put_many_short}
 
@@ -98,13 +99,6 @@ fields_place a bytes = place_upto (length bytes) a 0 bytes
 
 -- ---- one field after the other
 
-pub ok_is : {A : Type 0} (x y : A) → (let r : Result A Fault = Ok x in let q : Result A Fault = Ok y in r ≡ q) → x ≡ y
-ok_is x y e = cc
-
-pub bind_ok : {A B : Type 0} (r : Result A Fault) (f : A → Result B Fault) (y : B) → (r >>= f) ≡ Ok y → (x : A) × (r ≡ Ok x) × (f x ≡ Ok y)
-bind_ok (Ok x) f y e = (x, refl, e)
-bind_ok (Err d) f y e = absurd cc
-
 -- a field that is taken is no more among the fields to come
 abbrev Step : Shape → Type 0
 Step s = (at end : ℕ) (f : Field) (u v : Value s) (fs : List Field) → take_field s at end f u ≡ Ok v → value s u (f ∷ fs) ≡ value s v fs
@@ -157,16 +151,8 @@ bytes_said : (p : Payload) (u : List ℕ) → or_else (bytes_in p) u ≡ one_byt
 bytes_said (Long b) u = refl
 bytes_said p u = refl
 
-checked_is : {A : Type 0} (t : Bool) (b x : A) (f : Fault) → (let r : Result A Fault = cond t (Ok b) (Err f) in r ≡ Ok x) → b ≡ x
-checked_is true b x f e = ok_is b x e
-checked_is false b x f e = absurd cc
-
-refused_is : {A : Type 0} (t : Bool) (b x : A) (f : Fault) → (let r : Result A Fault = cond t (Err f) (Ok b) in r ≡ Ok x) → b ≡ x
-refused_is true b x f e = absurd cc
-refused_is false b x f e = ok_is b x e
-
 text_said : (at : ℕ) (p : Payload) (u x : List ℕ) → one_text at p u ≡ Ok x → or_else (bytes_in p) u ≡ x
-text_said at (Long b) u x e = checked_is (is_utf8 b) b x (fault_at at NotUtf8) e
+text_said at (Long b) u x e = (checked_ok (is_utf8 b) b x (fault_at at NotUtf8) e).1
 text_said at p u x e = ok_is u x e
 
 one_step : (k : Shape) → Law k → (at end : ℕ) (p : Payload) (ps : List Payload) (u x : Value k) → put_one k (take_field k) at end p u ≡ Ok x
@@ -201,7 +187,7 @@ numbers_give w at p u x e = append-nil u ∙ ok_is u x e
 
 fixed_give : (at : ℕ) (p : Payload) (u x : List ℕ) → put_fixed at p u ≡ Ok x → u ++ fixed_of p ≡ x
 fixed_give at (Eight b) u x e = ok_is _ x e
-fixed_give at (Long b) u x e = checked_is (length b % 8 == 0) (u ++ packed_fixed b) x (fault_at at PackedLength) e
+fixed_give at (Long b) u x e = (checked_ok (length b % 8 == 0) (u ++ packed_fixed b) x (fault_at at PackedLength) e).1
 fixed_give at p u x e = append-nil u ∙ ok_is u x e
 
 bytes_give : (p : Payload) (u x : List (List ℕ)) → (let r : Result (List (List ℕ)) Fault = Ok (put_bytes p u) in r ≡ Ok x) → u ++ texts_of p ≡ x
@@ -211,7 +197,7 @@ bytes_give p u x e = append-nil u ∙ ok_is u x e
 texts_give : (at : ℕ) (p : Payload) (u x : List (List ℕ)) → put_texts at p u ≡ Ok x → u ++ texts_of p ≡ x
 texts_give at (Long b) u x e =
     let r = bind_ok (text_of at b) (λ (t : List ℕ). Ok (u ++ t ∷ [])) x e in
-    ap (λ (t : List ℕ). u ++ t ∷ []) (checked_is (is_utf8 b) b r.0 (fault_at at NotUtf8) r.1) ∙ ok_is (u ++ r.0 ∷ []) x r.2
+    ap (λ (t : List ℕ). u ++ t ∷ []) (checked_ok (is_utf8 b) b r.0 (fault_at at NotUtf8) r.1).1 ∙ ok_is (u ++ r.0 ∷ []) x r.2
 texts_give at p u x e = append-nil u ∙ ok_is u x e
 
 -- elements that are taken are no more among those to come
@@ -225,8 +211,8 @@ many_step (Index T entry) law at end p ps u x e = fold_many (numbers_of I32) p p
 many_step Fixed law at end p ps u x e = fold_many fixed_of p ps u x (fixed_give at p u x e)
 many_step Bytes law at end p ps u x e = fold_many texts_of p ps u x (bytes_give p u x e)
 many_step Text law at end p ps u x e = fold_many texts_of p ps u x (texts_give at p u x e)
-many_step (Any depth) law at end p ps u x e = ap (λ (y : List (Value (Any depth))). y ++ []) (refused_is (fits_many (Any depth) p) u x (fault_at at NotBuilt) e)
-many_step (Unbuilt k) law at end p ps u x e = ap (λ (y : List (Value (Unbuilt k))). y ++ []) (refused_is (fits_many k p) u x (fault_at at NotBuilt) e)
+many_step (Any depth) law at end p ps u x e = ap (λ (y : List (Value (Any depth))). y ++ []) (refused_ok (fits_many (Any depth) p) u x (fault_at at NotBuilt) e)
+many_step (Unbuilt k) law at end p ps u x e = ap (λ (y : List (Value (Unbuilt k))). y ++ []) (refused_ok (fits_many k p) u x (fault_at at NotBuilt) e)
 many_step k law at end p ps u x e = fold_many (messages_of (value k (empty k))) p ps u x (many_message k tt law at end p u x e)
 
 -- ---- messages

@@ -5,6 +5,7 @@ use Rattle.schema.specs.Fault.{Reason}
 use Rattle.schema.specs.Steps.{Bad, Met, field_at, met, trace}
 use Rattle.schema.specs.Spelling.{Placed, Spells, SpellsAt, SpellsField, fields_of, trace_of}
 use Rattle.schema.specs.FirstFault.{BadField}
+use Rattle.schema_laws.proofs.Results.{ok_is}
 use Rattle.schema_laws.proofs.Traces.{trace_is, trace_end}
 use Rattle.schema_laws.proofs.OneField.{field_read, field_found, field_bad, field_some, bad_some, FieldFound}
 
@@ -90,9 +91,6 @@ spelled_read base bytes fs r = subst (Spells bytes) r.2 (unplaced r.0 base bytes
 
 field_from : (bytes : List ℕ) (f : Field) (fs : List Field) → (s : Spells bytes (f ∷ fs)) → field_at bytes ≡ Ok (f, s.1)
 field_from bytes f fs s = ap field_at s.2 ∙ field_read s.0 f s.1 s.3
-
-ok_is : (x y : Field × List ℕ) → (let r : Result (Field × List ℕ) Reason = Ok x in let q : Result (Field × List ℕ) Reason = Ok y in r ≡ q) → x ≡ y
-ok_is x y e = cc
 
 none_left : (bytes : List ℕ) (f : Field) (fs : List Field) → bytes ≡ [] → Spells bytes (f ∷ fs) → ⊥
 none_left bytes f fs n s = let some = field_some s.0 f s.3 in absurd (omega (arith, ap length n, ap length s.2, length-append s.0 s.1))

@@ -7,6 +7,7 @@ use Rattle.schema.specs.Merge.{run}
 use Rattle.schema.specs.Fits.{Each}
 use Rattle.schema.specs.Spelling.{Spells, SpellsField}
 use Rattle.schema.specs.FirstFault.{BadField, FirstFault, Sound, WrongAt}
+use Rattle.schema_laws.proofs.Results.{err_is, bind_ok}
 use Rattle.schema_laws.proofs.Traces.{trace_end, fields}
 use Rattle.schema_laws.proofs.Spelled.{Begins, begins, trace_one, trace_bad}
 
@@ -19,9 +20,6 @@ Misses {S = S} step Inside = (at end : ℕ) (f : Field) (s : S) (g : Fault) → 
 -- whether a field is taken depends on no place
 abbrev pub Steady : {S : Type 0} → (ℕ → ℕ → Field → S → Result S Fault) → Type 0
 Steady {S = S} step = (at end : ℕ) (f : Field) (s t : S) → step at end f s ≡ Ok t → (c d : ℕ) → step c d f s ≡ Ok t
-
-err_is : {A : Type 0} (x y : Fault) → (let r : Result A Fault = Err x in let q : Result A Fault = Err y in r ≡ q) → x ≡ y
-err_is x y e = cc
 
 module _ {S : Type 0} (step : ℕ → ℕ → Field → S → Result S Fault) (Inside : ℕ → ℕ → Field → Fault → Type 0) (hits : Hits step Inside) (misses : Misses step Inside) (steady : Steady step) where
   -- the rest has the fault
@@ -109,10 +107,6 @@ module _ {S : Type 0} (step : ℕ → ℕ → Field → S → Result S Fault) (I
   fault_read base bytes s g r = ap (λ (y : List ℕ). run step s (trace base y)) r.is ∙ read_upto r.fields base r.before r.after s g r.spelled r.sound r.wrong
 
   -- ---- what is read without a fault
-
-  bind_ok : {A B : Type 0} (r : Result A Fault) (h : A → Result B Fault) (y : B) → (r >>= h) ≡ Ok y → (x : A) × (r ≡ Ok x) × (h x ≡ Ok y)
-  bind_ok (Ok x) h y e = (x, refl, e)
-  bind_ok (Err d) h y e = absurd cc
 
   moved_step : (base other : ℕ) (bytes : List ℕ) (s t : S) → Begins base bytes
       → ((b c : ℕ) (rest : List ℕ) (u : S) → length rest < length bytes → run step u (trace b rest) ≡ Ok t → run step u (trace c rest) ≡ Ok t)
