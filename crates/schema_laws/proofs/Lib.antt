@@ -24,3 +24,4 @@ pub mod Ranges
 pub mod Growth
 pub mod GrowthOfLists
 pub mod ReadFits
+pub mod VarintLoop

@@ -19,6 +19,7 @@ use Rattle.schema_laws.proofs.OneField.{number_some}
 
 -- ---- varints
 
+-- what so many bytes, and a last one, can be
 digits_below : (front : List ℕ) (last m : ℕ) → last < 128 → last < m → digits 0 (front ++ last ∷ []) < 128 ^ length front * m
 digits_below [] last m low lt = omega arith
 digits_below (b ∷ front) last m low lt =
@@ -79,6 +80,7 @@ numbers_fit w b (n ∷ ns) s =
 
 -- ---- eight-byte values
 
+-- eight bytes are a number of 64 bits
 pub fixed_below : (b : List ℕ) → Octets b → from_le_bytes w64 b < 2 ^ 64
 fixed_below b h =
     let h0 = octet b h 0 in let h1 = octet b h 1 in let h2 = octet b h 2 in let h3 = octet b h 3 in
@@ -95,6 +97,7 @@ eights_fit (suc k) b h =
 
 -- ---- fields
 
+-- a payload of bytes, or a number of 64 bits
 abbrev pub PayloadInRange : Payload → Type 0
 PayloadInRange (Varint n) = n < 2 ^ 64
 PayloadInRange (Eight b) = Octets b
@@ -110,12 +113,14 @@ pub record FieldInRange (f : Field) : Type 0 where
 abbrev pub field_cost : Payload → ℕ
 field_cost p = payload_len p + 2
 
+-- a payload that bytes spell is in its range
 payload_in_range : (bytes : List ℕ) (p : Payload) → SpellsPayload bytes p → Octets bytes → PayloadInRange p × (payload_len p + 1 ≤ length bytes)
 payload_in_range bytes (Varint n) s h = (number_below bytes n s, omega (arith, number_some bytes n s))
 payload_in_range bytes (Eight b) s h = (subst Octets s.0 h, omega (arith, ap length s.0, s.1))
 payload_in_range bytes (Long b) s h = (each_right (λ n. n < 256) s.0 b (subst Octets s.1 h), omega (arith, ap length s.1, length-append s.0 b, number_some s.0 (length b) s.2))
 payload_in_range bytes (Four b) s h = (tt, omega (arith, ap length s.0, s.1))
 
+-- and so is a field
 pub field_in_range : (one : List ℕ) (f : Field) → SpellsField one f → Octets one → FieldInRange f × (field_cost f.payload ≤ length one)
 field_in_range one f s h =
     let p = payload_in_range s.payload f.payload s.carries (each_right (λ n. n < 256) s.tag s.payload (subst Octets s.is h)) in

@@ -20,6 +20,7 @@ FitsSmall k = (x : Value k) → InRange k x → size k x < 2 ^ 64 → Fits k x
 abbrev FitsItem : (k : Shape) → Value k → Type 0
 FitsItem k y = Fits k y × (size k y < 2 ^ 64)
 
+-- what follows from the one holds too
 each_as : {A : Type 0} (P Q : A → Type 0) → ((x : A) → P x → Q x) → (xs : List A) → Each P xs → Each Q xs
 each_as P Q h [] i = tt
 each_as P Q h (x ∷ xs) i = (h x i.0, each_as P Q h xs i.1)
@@ -34,6 +35,7 @@ each_short {A} text n P Q h (x ∷ xs) i short =
     subst (λ (m : ℕ). m < 2 ^ 64) (length-append (long_field n (text x)) (flat_map (λ (y : A). long_field n (text y)) xs)) short in
     (h x i.0 (omega arith), each_short text n P Q h xs i.1 (omega arith))
 
+-- a singular row
 one_fits : (k : Shape) (n : ℕ) (x : Value k) → InRange k x → length (spell_one k (spell k) n x) < 2 ^ 64 → (IsMessage k → FitsSmall k) → FitsItem k x
 one_fits (Number w) n x i short h = (i, omega arith)
 one_fits (Index T entry) n x i short h = (i, omega arith)
@@ -52,6 +54,7 @@ ManyFits k xs = Each (FitsItem k) xs × FitsTogether k xs
 leaves : (k : Shape) (xs : List (Value k)) → Each (Fits k) xs → ((x : Value k) → size k x ≡ 0) → Each (FitsItem k) xs
 leaves k xs i none = each_as (Fits k) (FitsItem k) (λ x f. (f, let e = none x in omega arith)) xs i
 
+-- a repeated row
 many_fits : (k : Shape) (n : ℕ) (xs : List (Value k)) → ManyIn k xs → length (spell_many k (spell k) n xs) < 2 ^ 64 → (IsMessage k → FitsSmall k) → ManyFits k xs
 many_fits (Number w) n xs i short h = let l = bytes_field_le n (numbers_text w xs) in (leaves (Number w) xs i.0 (λ x. refl), omega arith)
 many_fits (Index T entry) n xs i short h = let l = bytes_field_le n (numbers_text I32 xs) in (leaves (Index T entry) xs i.0 (λ x. refl), omega arith)
