@@ -1,11 +1,11 @@
 -- A value that is read is in its range, and each field makes its spelling longer by sixteen times its own bytes at most.
-use Rattle.std.proofs.Common.{◌≡◌, ℕ, zero, suc, ◌+◌, ◌*◌, ◌-◌, ◌^◌, ◌<◌, ◌≤◌, Bool, true, false, cond, List, [], ◌++◌, length, Result, Ok, Err, refl, sym, ap, subst, ◌∙◌, arith, length-append, inl, inr}
+use Rattle.std.proofs.Common.{◌≡◌, ℕ, zero, suc, ◌+◌, ◌*◌, ◌-◌, ◌^◌, ◌<◌, ◌≤◌, Bool, true, false, cond, List, [], ◌++◌, length, Ok, refl, sym, ap, subst, ◌∙◌, arith, length-append, inl, inr}
 use Rattle.std.specs.Prelude.{◌==◌}
 use Rattle.std.specs.Int.{w64, to_le_bytes, from_le_bytes}
 use Rattle.std.specs.Str.{is_utf8}
 use Rattle.std.proofs.lemmas.Bool.{cases_eq, eq-eqb, ne_eqb}
 use Rattle.schema.specs.Field.{Eight, Field, Long, Payload, Varint, greatest_number}
-use Rattle.schema.specs.Fault.{Fault, NotUtf8, fault_at}
+use Rattle.schema.specs.Fault.{NotUtf8, fault_at}
 use Rattle.schema.specs.Steps.{trace}
 use Rattle.schema.specs.Shape.{Any, Bytes, Fixed, Format, I32, Index, IsMessage, Many, Number, NumberValue, One, Shape, Text, Unbuilt, Value, number_from}
 use Rattle.schema.specs.Merge.{merge, one_bytes, one_fixed, one_number, one_text, put_one, run, take_field}

@@ -1,5 +1,5 @@
 -- A value that is read can be written and read again, where the bytes are not too many.
-use Rattle.std.proofs.Common.{◌≡◌, ℕ, ◌+◌, ◌*◌, ◌^◌, ◌<◌, List, [], ◌∷◌, length, Ok, refl, ap, subst, arith, length-append}
+use Rattle.std.proofs.Common.{◌≡◌, ℕ, ◌+◌, ◌*◌, ◌^◌, ◌<◌, List, [], ◌∷◌, length, Ok, refl, sym, ap, subst, ◌∙◌, arith, length-append}
 use Rattle.std.specs.List.{flat_map}
 use Rattle.std.proofs.lemmas.List.Folds.{flat_map-map}
 use Rattle.schema.specs.Shape.{Any, Bytes, End, Fixed, I32, Index, IsMessage, Many, Number, One, Shape, Text, Unbuilt, Value, empty}
@@ -7,6 +7,7 @@ use Rattle.schema.specs.Merge.{Part, merge, merge_all}
 use Rattle.schema.specs.Spell.{bytes_field, fixed_text, long_field, numbers_text, spell, spell_many, spell_one}
 use Rattle.schema.specs.Fits.{Each, Fits, FitsTogether, Lawful}
 use Rattle.schema.specs.Value.{joined}
+use Rattle.schema_laws.proofs.Back.{reads_back}
 use Rattle.schema_laws.proofs.Results.{ok_is, bind_ok}
 use Rattle.schema_laws.proofs.Lists.{Octets, each_left, each_right}
 use Rattle.schema_laws.proofs.Growth.{long_field_le, bytes_field_le, InRange, size, message_keeps}
@@ -112,3 +113,12 @@ read_fits s m lawful base bytes v o room e =
     let g = message_keeps s (keeps s) base bytes (empty s) v o (empty_in s) (omega arith) e in
     let short = g.1 in
     fits_from s m lawful v g.0 (omega arith)
+
+-- so its spelling is read as the same value
+pub read_again : (s : Shape) → IsMessage s → Lawful s → (base : ℕ) (bytes : List ℕ) (v : Value s) → Octets bytes → 16 * length bytes < 2 ^ 64 → merge s (empty s) base bytes ≡ Ok v
+    → (other : ℕ) → merge s (empty s) other (spell s v) ≡ Ok v
+read_again s m lawful base bytes v o room e other = reads_back s m lawful v (read_fits s m lawful base bytes v o room e) other
+
+-- values that fit are told apart by their spellings
+pub spelled_apart : (s : Shape) → IsMessage s → Lawful s → (v w : Value s) → Fits s v → Fits s w → spell s v ≡ spell s w → v ≡ w
+spelled_apart s m lawful v w f g e = ok_is v w (sym (reads_back s m lawful v f 0) ∙ ap (merge s (empty s) 0) e ∙ reads_back s m lawful w g 0)
