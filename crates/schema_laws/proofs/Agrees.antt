@@ -2,121 +2,79 @@
 use Rattle.std.proofs.Common.{◌≡◌, ℕ, ◌-◌, ◌%◌, Bool, true, false, cond, List, [], ◌∷◌, ◌++◌, length, Result, Ok, Err, refl, sym, ap, ◌∙◌, inl, inr}
 use Rattle.std.specs.Prelude.{◌⊎◌, ◌==◌}
 use Rattle.std.specs.Str.{is_utf8}
-use Rattle.std.proofs.lemmas.Bool.{eqb-true, eqb-false, ne_eqb, eq-eqb}
+use Rattle.std.proofs.lemmas.Bool.{eqb-true, eqb-false, ne_eqb}
 use Rattle.schema.specs.Field.{Long, Payload}
 use Rattle.schema.specs.Fault.{Fault, NotBuilt, NotUtf8, PackedLength, Reason, fault_at}
 use Rattle.schema.specs.Steps.{◌>>=◌}
 use Rattle.schema.specs.Shape.{Any, Bytes, Fixed, Format, I32, Index, Many, Number, NumberValue, One, Shape, Text, Unbuilt, Value, empty, fits_many, fits_one}
 use Rattle.schema.specs.Merge.{at_place, merge, packed, packed_fixed, put_many, put_numbers, put_one, put_packed, take_field, text_of}
 use Rattle.schema.specs.FirstFault.{BadPacked, FieldFault, FirstFault, HasFault, ManyFault, OneFault}
+use Rattle.schema_laws.proofs.Results.{err_is, map_err, map_at, map_both, checked, checked_err, checked_fails, checked_steady, refused_err, refused_fails, refused_steady}
 use Rattle.schema_laws.proofs.StepFaults.{Hits, Misses, Steady, fault_found, fault_read, moved}
 use Rattle.schema_laws.proofs.Packed.{packed_found, packed_bad}
 
-pub err_is : {A : Type 0} (x y : Fault) → (let r : Result A Fault = Err x in let q : Result A Fault = Err y in r ≡ q) → x ≡ y
-err_is x y e = cc
-
-bind_err : {A B : Type 0} (r : Result A Fault) (h : A → B) (e : Fault) → (r >>= λ x. Ok (h x)) ≡ Err e → r ≡ Err e
-bind_err (Ok x) h e p = absurd cc
-bind_err (Err d) h e p = let q : d ≡ e = cc in ap (λ (x : Fault). Err x) q
-
-bind_at : {A B : Type 0} (r : Result A Fault) (h : A → B) (e : Fault) → r ≡ Err e → (r >>= λ x. Ok (h x)) ≡ Err e
-bind_at r h e p = ap (λ x. x >>= λ y. Ok (h y)) p
-
-bind_ok : {A B : Type 0} (r : Result A Fault) (h : A → B) (y : B) → (r >>= λ x. Ok (h x)) ≡ Ok y → (x : A) × (r ≡ Ok x) × (h x ≡ y)
-bind_ok (Ok x) h y e = (x, refl, cc)
-bind_ok (Err d) h y e = absurd cc
-
--- what comes next is the same where it does not fail
-bind_both : {A B : Type 0} (r q : Result A Fault) (h : A → B) (y : B) → ((x : A) → r ≡ Ok x → q ≡ Ok x) → (r >>= λ x. Ok (h x)) ≡ Ok y → (q >>= λ x. Ok (h x)) ≡ Ok y
-bind_both {A} {B} r q h y same e =
-    let x = bind_ok r h y e in
-    ap (λ (z : Result A Fault). z >>= λ x. Ok (h x)) (same x.0 x.1) ∙ ap (λ (z : B). let t : Result B Fault = Ok z in t) x.2
-
+-- a shape whose step fails exactly with its faults, at any place alike
 pub record Agrees (s : Shape) : Type 0 where
   pub hits : Hits (take_field s) (FieldFault s)
   pub misses : Misses (take_field s) (FieldFault s)
   pub steady : Steady (take_field s)
 
--- ---- tests
-
--- what is right by a test, and else this fault
-abbrev checked : {A : Type 0} → Bool → A → Fault → Result A Fault
-checked t x f = cond t (Ok x) (Err f)
-
-checked_hits : {A : Type 0} (t : Bool) (x : A) (f g : Fault) → checked t x f ≡ Err g → (t ≡ false) × (g ≡ f)
-checked_hits true x f g e = absurd cc
-checked_hits {A} false x f g e = (refl, sym (err_is {A = A} f g e))
-
-checked_misses : {A : Type 0} (t : Bool) (x : A) (f g : Fault) → (t ≡ false) × (g ≡ f) → checked t x f ≡ Err g
-checked_misses true x f g w = absurd (let z = w.0 in cc)
-checked_misses {A} false x f g w = ap (λ (h : Fault). let r : Result A Fault = Err h in r) (sym w.1)
-
-checked_steady : {A : Type 0} (t : Bool) (x : A) (f h : Fault) (w : A) → checked t x f ≡ Ok w → checked t x h ≡ Ok w
-checked_steady true x f h w e = e
-checked_steady false x f h w e = absurd cc
-
--- what is refused by a test
-abbrev refused : {A : Type 0} → Bool → A → Fault → Result A Fault
-refused t x f = cond t (Err f) (Ok x)
-
-refused_hits : {A : Type 0} (t : Bool) (x : A) (f g : Fault) → refused t x f ≡ Err g → (t ≡ true) × (g ≡ f)
-refused_hits {A} true x f g e = (refl, sym (err_is {A = A} f g e))
-refused_hits false x f g e = absurd cc
-
-refused_misses : {A : Type 0} (t : Bool) (x : A) (f g : Fault) → (t ≡ true) × (g ≡ f) → refused t x f ≡ Err g
-refused_misses {A} true x f g w = ap (λ (h : Fault). let r : Result A Fault = Err h in r) (sym w.1)
-refused_misses false x f g w = absurd (let z = w.0 in cc)
-
-refused_steady : {A : Type 0} (t : Bool) (x : A) (f h : Fault) (w : A) → refused t x f ≡ Ok w → refused t x h ≡ Ok w
-refused_steady true x f h w e = absurd cc
-refused_steady false x f h w e = e
-
 -- ---- packed payloads
 
+-- a packed payload fails where the field's tag lies
 packed_at : {A : Type 0} (at : ℕ) (r : Result A Reason) (g : Fault) → at_place at r ≡ Err g → (r ≡ Err g.reason) × (g.place ≡ at)
 packed_at at (Ok x) g e = absurd cc
 packed_at {A} at (Err d) g e =
     let q : fault_at at d ≡ g = err_is {A = A} (fault_at at d) g e in
     (ap (λ (x : Fault). let r : Result A Reason = Err x.reason in r) q, ap (λ (x : Fault). x.place) (sym q))
 
+-- a packed payload that fails is bad
 packed_hits : (w : Format) (at : ℕ) (b : List ℕ) (vs : List (NumberValue w)) (g : Fault) → put_packed w at b vs ≡ Err g → BadPacked b g.reason × (g.place ≡ at)
 packed_hits w at b vs g e =
-    let p = packed_at at (packed w b) g (bind_err (at_place at (packed w b)) (λ (ns : List (NumberValue w)). vs ++ ns) g e) in
+    let p = packed_at at (packed w b) g (map_err (at_place at (packed w b)) (λ (ns : List (NumberValue w)). vs ++ ns) g e) in
     (packed_found w b g.reason p.0, p.1)
 
+-- and a bad one fails
 packed_misses : (w : Format) (at : ℕ) (b : List ℕ) (vs : List (NumberValue w)) (g : Fault) → BadPacked b g.reason × (g.place ≡ at) → put_packed w at b vs ≡ Err g
 packed_misses w at b vs g p =
     ap (λ (r : Result (List (NumberValue w)) Reason). at_place at r >>= λ ns. Ok (vs ++ ns)) (packed_bad w b g.reason p.0)
     ∙ ap (λ (n : ℕ). let r : Result (List (NumberValue w)) Fault = Err (fault_at n g.reason) in r) (sym p.1)
 
+-- what is right at one place is right at another
 place_steady : {A : Type 0} (at c : ℕ) (r : Result A Reason) (x : A) → at_place at r ≡ Ok x → at_place c r ≡ Ok x
 place_steady at c (Ok y) x e = e
 place_steady at c (Err r) x e = absurd cc
 
+-- numbers that are taken don't depend on the place
 numbers_steady : (w : Format) (at c : ℕ) (p : Payload) (vs us : List (NumberValue w)) → put_numbers w at p vs ≡ Ok us → put_numbers w c p vs ≡ Ok us
-numbers_steady w at c (Long b) vs us e = bind_both (at_place at (packed w b)) (at_place c (packed w b)) (λ (ns : List (NumberValue w)). vs ++ ns) us (λ x q. place_steady at c (packed w b) x q) e
+numbers_steady w at c (Long b) vs us e = map_both (at_place at (packed w b)) (at_place c (packed w b)) (λ (ns : List (NumberValue w)). vs ++ ns) us (λ x q. place_steady at c (packed w b) x q) e
 numbers_steady w at c p vs us e = e
 
 -- packed eight-byte values, whose length is a multiple of 8
 abbrev eights : ℕ → List ℕ → List ℕ → Result (List ℕ) Fault
 eights at b vs = checked (length b % 8 == 0) (vs ++ packed_fixed b) (fault_at at PackedLength)
 
+-- eight-byte values that fail have a wrong length
 eights_hits : (at : ℕ) (b vs : List ℕ) (g : Fault) → eights at b vs ≡ Err g → ((length b % 8 ≡ 0) → ⊥) × (g ≡ fault_at at PackedLength)
 eights_hits at b vs g e =
-    let h = checked_hits (length b % 8 == 0) (vs ++ packed_fixed b) (fault_at at PackedLength) g e in
+    let h = checked_err (length b % 8 == 0) (vs ++ packed_fixed b) (fault_at at PackedLength) g e in
     (eqb-false (length b % 8) 0 h.0, h.1)
 
+-- and those of a wrong length fail
 eights_misses : (at : ℕ) (b vs : List ℕ) (g : Fault) → ((length b % 8 ≡ 0) → ⊥) × (g ≡ fault_at at PackedLength) → eights at b vs ≡ Err g
-eights_misses at b vs g w = checked_misses (length b % 8 == 0) (vs ++ packed_fixed b) (fault_at at PackedLength) g (ne_eqb (length b % 8) 0 w.0, w.1)
+eights_misses at b vs g w = checked_fails (length b % 8 == 0) (vs ++ packed_fixed b) (fault_at at PackedLength) g (ne_eqb (length b % 8) 0 w.0, w.1)
 
 -- ---- messages
 
+-- a message that fails has this first fault
 message_hits : (k : Shape) → Agrees k → (base : ℕ) (b : List ℕ) (v : Value k) (g : Fault) → merge k v base b ≡ Err g → FirstFault (FieldFault k) base b g
 message_hits k a base b v g e = fault_found (take_field k) (FieldFault k) a.hits a.misses a.steady base b v g e
 
+-- and one with this first fault fails
 message_misses : (k : Shape) → Agrees k → (base : ℕ) (b : List ℕ) (v : Value k) (g : Fault) → FirstFault (FieldFault k) base b g → merge k v base b ≡ Err g
 message_misses k a base b v g e = fault_read (take_field k) (FieldFault k) a.hits a.misses a.steady base b v g e
 
+-- a message that is read doesn't depend on its place
 message_steady : (k : Shape) → Agrees k → (base other : ℕ) (b : List ℕ) (v w : Value k) → merge k v base b ≡ Ok w → merge k v other b ≡ Ok w
 message_steady k a base other b v w e = moved (take_field k) (FieldFault k) a.hits a.misses a.steady base other b v w e
 
@@ -124,40 +82,46 @@ message_steady k a base other b v w e = moved (take_field k) (FieldFault k) a.hi
 abbrev element : (k : Shape) → ℕ → List ℕ → List (Value k) → Result (List (Value k)) Fault
 element k base b vs = merge k (empty k) base b >>= λ v. Ok (vs ++ v ∷ [])
 
+-- an element that fails has this first fault
 element_hits : (k : Shape) → Agrees k → (base : ℕ) (b : List ℕ) (vs : List (Value k)) (g : Fault) → element k base b vs ≡ Err g → FirstFault (FieldFault k) base b g
-element_hits k a base b vs g e = message_hits k a base b (empty k) g (bind_err (merge k (empty k) base b) (λ (v : Value k). vs ++ v ∷ []) g e)
+element_hits k a base b vs g e = message_hits k a base b (empty k) g (map_err (merge k (empty k) base b) (λ (v : Value k). vs ++ v ∷ []) g e)
 
+-- and one with this first fault fails
 element_misses : (k : Shape) → Agrees k → (base : ℕ) (b : List ℕ) (vs : List (Value k)) (g : Fault) → FirstFault (FieldFault k) base b g → element k base b vs ≡ Err g
-element_misses k a base b vs g e = bind_at (merge k (empty k) base b) (λ (v : Value k). vs ++ v ∷ []) g (message_misses k a base b (empty k) g e)
+element_misses k a base b vs g e = map_at (merge k (empty k) base b) (λ (v : Value k). vs ++ v ∷ []) g (message_misses k a base b (empty k) g e)
 
+-- an element that is read doesn't depend on its place
 element_steady : (k : Shape) → Agrees k → (base other : ℕ) (b : List ℕ) (vs ws : List (Value k)) → element k base b vs ≡ Ok ws → element k other b vs ≡ Ok ws
-element_steady k a base other b vs ws e = bind_both (merge k (empty k) base b) (merge k (empty k) other b) (λ (v : Value k). vs ++ v ∷ []) ws
+element_steady k a base other b vs ws e = map_both (merge k (empty k) base b) (merge k (empty k) other b) (λ (v : Value k). vs ++ v ∷ []) ws
     (λ x q. message_steady k a base other b (empty k) x q) e
 
 -- ---- singular rows
 
+-- an occurrence of a singular row that fails has the fault
 one_hits : (k : Shape) → Agrees k → (at end : ℕ) (p : Payload) (v : Value k) (g : Fault) → put_one k (take_field k) at end p v ≡ Err g → OneFault k (FieldFault k) at end p g
 one_hits (Number w) a at end p v g e = absurd cc
 one_hits (Index T entry) a at end p v g e = absurd cc
 one_hits Fixed a at end p v g e = absurd cc
 one_hits Bytes a at end p v g e = absurd cc
-one_hits Text a at end (Long b) v g e = checked_hits (is_utf8 b) b (fault_at at NotUtf8) g e
-one_hits (Any depth) a at end p v g e = refused_hits (fits_one (Any depth) p) v (fault_at at NotBuilt) g e
-one_hits (Unbuilt k) a at end p v g e = refused_hits (fits_one k p) v (fault_at at NotBuilt) g e
+one_hits Text a at end (Long b) v g e = checked_err (is_utf8 b) b (fault_at at NotUtf8) g e
+one_hits (Any depth) a at end p v g e = refused_err (fits_one (Any depth) p) v (fault_at at NotBuilt) g e
+one_hits (Unbuilt k) a at end p v g e = refused_err (fits_one k p) v (fault_at at NotBuilt) g e
 one_hits k a at end (Long b) v g e = message_hits k a (end - length b) b v g e
 one_hits k a at end p v g e = absurd cc
 
+-- and one that has the fault fails
 one_misses : (k : Shape) → Agrees k → (at end : ℕ) (p : Payload) (v : Value k) (g : Fault) → OneFault k (FieldFault k) at end p g → put_one k (take_field k) at end p v ≡ Err g
 one_misses (Number w) a at end p v g e = absurd e
 one_misses (Index T entry) a at end p v g e = absurd e
 one_misses Fixed a at end p v g e = absurd e
 one_misses Bytes a at end p v g e = absurd e
-one_misses Text a at end (Long b) v g e = checked_misses (is_utf8 b) b (fault_at at NotUtf8) g e
-one_misses (Any depth) a at end p v g e = refused_misses (fits_one (Any depth) p) v (fault_at at NotBuilt) g e
-one_misses (Unbuilt k) a at end p v g e = refused_misses (fits_one k p) v (fault_at at NotBuilt) g e
+one_misses Text a at end (Long b) v g e = checked_fails (is_utf8 b) b (fault_at at NotUtf8) g e
+one_misses (Any depth) a at end p v g e = refused_fails (fits_one (Any depth) p) v (fault_at at NotBuilt) g e
+one_misses (Unbuilt k) a at end p v g e = refused_fails (fits_one k p) v (fault_at at NotBuilt) g e
 one_misses k a at end (Long b) v g e = message_misses k a (end - length b) b v g e
 one_misses k a at end p v g e = absurd e
 
+-- and one that is taken doesn't depend on the place
 one_steady : (k : Shape) → Agrees k → (at end : ℕ) (p : Payload) (v w : Value k) → put_one k (take_field k) at end p v ≡ Ok w → (c d : ℕ) → put_one k (take_field k) c d p v ≡ Ok w
 one_steady (Number n) a at end p v w e c d = e
 one_steady (Index T entry) a at end p v w e c d = e
@@ -171,34 +135,37 @@ one_steady k a at end p v w e c d = e
 
 -- ---- repeated rows
 
+-- an occurrence of a repeated row that fails has the fault
 many_hits : (k : Shape) → Agrees k → (at end : ℕ) (p : Payload) (v : List (Value k)) (g : Fault) → put_many k (take_field k) at end p v ≡ Err g → ManyFault k (FieldFault k) at end p g
 many_hits (Number w) a at end (Long b) v g e = packed_hits w at b v g e
 many_hits (Index T entry) a at end (Long b) v g e = packed_hits I32 at b v g e
 many_hits Fixed a at end (Long b) v g e = eights_hits at b v g e
 many_hits Bytes a at end p v g e = absurd cc
-many_hits Text a at end (Long b) v g e = checked_hits (is_utf8 b) b (fault_at at NotUtf8) g (bind_err (text_of at b) (λ (t : List ℕ). v ++ t ∷ []) g e)
-many_hits (Any depth) a at end p v g e = refused_hits (fits_many (Any depth) p) v (fault_at at NotBuilt) g e
-many_hits (Unbuilt k) a at end p v g e = refused_hits (fits_many k p) v (fault_at at NotBuilt) g e
+many_hits Text a at end (Long b) v g e = checked_err (is_utf8 b) b (fault_at at NotUtf8) g (map_err (text_of at b) (λ (t : List ℕ). v ++ t ∷ []) g e)
+many_hits (Any depth) a at end p v g e = refused_err (fits_many (Any depth) p) v (fault_at at NotBuilt) g e
+many_hits (Unbuilt k) a at end p v g e = refused_err (fits_many k p) v (fault_at at NotBuilt) g e
 many_hits k a at end (Long b) v g e = element_hits k a (end - length b) b v g e
 many_hits k a at end p v g e = absurd cc
 
+-- and one that has the fault fails
 many_misses : (k : Shape) → Agrees k → (at end : ℕ) (p : Payload) (v : List (Value k)) (g : Fault) → ManyFault k (FieldFault k) at end p g → put_many k (take_field k) at end p v ≡ Err g
 many_misses (Number w) a at end (Long b) v g e = packed_misses w at b v g e
 many_misses (Index T entry) a at end (Long b) v g e = packed_misses I32 at b v g e
 many_misses Fixed a at end (Long b) v g e = eights_misses at b v g e
 many_misses Bytes a at end p v g e = absurd e
-many_misses Text a at end (Long b) v g e = bind_at (text_of at b) (λ (t : List ℕ). v ++ t ∷ []) g (checked_misses (is_utf8 b) b (fault_at at NotUtf8) g e)
-many_misses (Any depth) a at end p v g e = refused_misses (fits_many (Any depth) p) v (fault_at at NotBuilt) g e
-many_misses (Unbuilt k) a at end p v g e = refused_misses (fits_many k p) v (fault_at at NotBuilt) g e
+many_misses Text a at end (Long b) v g e = map_at (text_of at b) (λ (t : List ℕ). v ++ t ∷ []) g (checked_fails (is_utf8 b) b (fault_at at NotUtf8) g e)
+many_misses (Any depth) a at end p v g e = refused_fails (fits_many (Any depth) p) v (fault_at at NotBuilt) g e
+many_misses (Unbuilt k) a at end p v g e = refused_fails (fits_many k p) v (fault_at at NotBuilt) g e
 many_misses k a at end (Long b) v g e = element_misses k a (end - length b) b v g e
 many_misses k a at end p v g e = absurd e
 
+-- and one that is taken doesn't depend on the place
 many_steady : (k : Shape) → Agrees k → (at end : ℕ) (p : Payload) (v w : List (Value k)) → put_many k (take_field k) at end p v ≡ Ok w → (c d : ℕ) → put_many k (take_field k) c d p v ≡ Ok w
 many_steady (Number n) a at end p v w e c d = numbers_steady n at c p v w e
 many_steady (Index T entry) a at end p v w e c d = numbers_steady I32 at c p v w e
 many_steady Fixed a at end (Long b) v w e c d = checked_steady (length b % 8 == 0) (v ++ packed_fixed b) (fault_at at PackedLength) (fault_at c PackedLength) w e
 many_steady Bytes a at end p v w e c d = e
-many_steady Text a at end (Long b) v w e c d = bind_both (text_of at b) (text_of c b) (λ (t : List ℕ). v ++ t ∷ []) w (λ x q. checked_steady (is_utf8 b) b (fault_at at NotUtf8) (fault_at c NotUtf8) x q) e
+many_steady Text a at end (Long b) v w e c d = map_both (text_of at b) (text_of c b) (λ (t : List ℕ). v ++ t ∷ []) w (λ x q. checked_steady (is_utf8 b) b (fault_at at NotUtf8) (fault_at c NotUtf8) x q) e
 many_steady (Any depth) a at end p v w e c d = refused_steady (fits_many (Any depth) p) v (fault_at at NotBuilt) (fault_at c NotBuilt) w e
 many_steady (Unbuilt k) a at end p v w e c d = refused_steady (fits_many k p) v (fault_at at NotBuilt) (fault_at c NotBuilt) w e
 many_steady k a at end (Long b) v w e c d = element_steady k a (end - length b) (d - length b) b v w e
@@ -210,23 +177,27 @@ many_steady k a at end p v w e c d = e
 abbrev tried : {A B C : Type 0} → Bool → Result A Fault → Result B Fault → (A → C) → (B → C) → Result C Fault
 tried t here there h i = cond t (here >>= λ x. Ok (h x)) (there >>= λ x. Ok (i x))
 
+-- a row that fails has the fault, by whether it was tried
 row_hits : {A B C : Type 0} (t : Bool) (P Q R : Type 0) (here : Result A Fault) (there : Result B Fault) (h : A → C) (i : B → C) (g : Fault)
     → (t ≡ true → P) → (t ≡ false → P → ⊥) → (here ≡ Err g → Q) → (there ≡ Err g → R) → tried t here there h i ≡ Err g → (P × Q) ⊎ ((P → ⊥) × R)
-row_hits true P Q R here there h i g same never a b e = inl (same refl, a (bind_err here h g e))
-row_hits false P Q R here there h i g same never a b e = inr (never refl, b (bind_err there i g e))
+row_hits true P Q R here there h i g same never a b e = inl (same refl, a (map_err here h g e))
+row_hits false P Q R here there h i g same never a b e = inr (never refl, b (map_err there i g e))
 
+-- and a row that has the fault fails
 row_misses : {A B C : Type 0} (t : Bool) (P Q R : Type 0) (here : Result A Fault) (there : Result B Fault) (h : A → C) (i : B → C) (g : Fault)
     → (t ≡ true → P) → (t ≡ false → P → ⊥) → (Q → here ≡ Err g) → (R → there ≡ Err g) → (P × Q) ⊎ ((P → ⊥) × R) → tried t here there h i ≡ Err g
-row_misses true P Q R here there h i g same never a b (inl w) = bind_at here h g (a w.1)
+row_misses true P Q R here there h i g same never a b (inl w) = map_at here h g (a w.1)
 row_misses true P Q R here there h i g same never a b (inr w) = absurd (w.0 (same refl))
 row_misses false P Q R here there h i g same never a b (inl w) = absurd (never refl w.0)
-row_misses false P Q R here there h i g same never a b (inr w) = bind_at there i g (b w.1)
+row_misses false P Q R here there h i g same never a b (inr w) = map_at there i g (b w.1)
 
+-- and a row that is taken doesn't depend on the place
 row_steady : {A B C : Type 0} (t : Bool) (here here2 : Result A Fault) (there there2 : Result B Fault) (h : A → C) (i : B → C) (w : C)
     → ((x : A) → here ≡ Ok x → here2 ≡ Ok x) → ((x : B) → there ≡ Ok x → there2 ≡ Ok x) → tried t here there h i ≡ Ok w → tried t here2 there2 h i ≡ Ok w
-row_steady true here here2 there there2 h i w a b e = bind_both here here2 h w a e
-row_steady false here here2 there there2 h i w a b e = bind_both there there2 i w b e
+row_steady true here here2 there there2 h i w a b e = map_both here here2 h w a e
+row_steady false here here2 there there2 h i w a b e = map_both there there2 i w b e
 
+-- each shape agrees
 pub agrees : (s : Shape) → Agrees s
 agrees (One n k rest) = let a = agrees k in let b = agrees rest in record {
   hits = λ at end f v g e. row_hits (f.number == n) (f.number ≡ n) (OneFault k (FieldFault k) at end f.payload g) (FieldFault rest at end f g)
@@ -272,6 +243,7 @@ merge_fault s u base bytes g h = message_misses s (agrees s) base bytes u g h
 pub merge_ok : (s : Shape) (u v : Value s) (base : ℕ) (bytes : List ℕ) → merge s u base bytes ≡ Ok v → (g : Fault) → HasFault s base bytes g → ⊥
 merge_ok s u v base bytes e g h = let f = merge_fault s u base bytes g h in absurd (cc (e, f))
 
+-- what never fails is right
 ok_from : {A : Type 0} (r : Result A Fault) → ((g : Fault) → r ≡ Err g → ⊥) → (v : A) × (r ≡ Ok v)
 ok_from (Ok v) h = (v, refl)
 ok_from (Err g) h = absurd (h g refl)

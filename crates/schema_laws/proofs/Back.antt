@@ -1,7 +1,7 @@
 -- What is spelled is read again.
-use Rattle.std.proofs.Common.{◌≡◌, ℕ, ◌+◌, ◌*◌, ◌-◌, ◌%◌, ◌^◌, ◌<◌, Bool, true, false, cond, List, [], ◌∷◌, ◌++◌, length, map, Result, Ok, Err, refl, sym, ap, ◌∙◌, arith, append_assoc, length-append, inl, inr}
-use Rattle.std.specs.Prelude.{◌==◌, ◌⊎◌}
-use Rattle.std.specs.Int.{w64, to_le_bytes, from_le_bytes}
+use Rattle.std.proofs.Common.{◌≡◌, ℕ, ◌+◌, ◌*◌, ◌-◌, ◌%◌, ◌^◌, ◌<◌, true, false, cond, List, [], ◌∷◌, ◌++◌, length, map, Result, Ok, Err, refl, sym, ap, ◌∙◌, arith, append_assoc, length-append, inl, inr}
+use Rattle.std.specs.Prelude.{◌==◌}
+use Rattle.std.specs.Int.{w64, to_le_bytes}
 use Rattle.std.specs.List.{flat_map}
 use Rattle.std.specs.Str.{is_utf8}
 use Rattle.std.proofs.lemmas.Bool.{cases_eq, eq-eqb, ne_eqb, cond-true}
@@ -10,19 +10,17 @@ use Rattle.std.proofs.lemmas.List.Folds.{flat_map-map}
 use Rattle.std.proofs.lemmas.Nat.{from_le_bytes-to_le_bytes_8}
 use Rattle.schema.specs.Field.{Payload, Varint, Eight, Long, Field}
 use Rattle.schema.specs.Fault.{Reason, NotUtf8, PackedLength, Fault, fault_at}
-use Rattle.schema.specs.Steps.{◌>>=◌, varint_at, field_at, trace}
+use Rattle.schema.specs.Steps.{◌>>=◌, field_at, trace}
 use Rattle.schema.specs.Shape.{Shape, Number, Fixed, Bytes, Text, Any, Index, Unbuilt, End, One, Many, Format, U32, U64, I32, I64, Flag, NumberValue, Value, IsMessage, empty, number_from, number_zero}
 use Rattle.schema.specs.Merge.{run, merge, put_one, put_many, put_packed, put_fixed, packed, packed_fixed, at_place, text_of, take_field}
 use Rattle.schema.specs.Spell.{varint, number_to, number_field, fixed_field, long_field, bytes_field, spell, spell_one, spell_many, items_text, numbers_text, fixed_text}
 use Rattle.schema.specs.Fits.{Each, HasRow, Lawful, FitsNumber, FitsTogether, Fits}
+use Rattle.schema_laws.proofs.Results.{ok_is, map_same, map_map}
 use Rattle.schema_laws.proofs.Onto.{varint_some, long_some}
 use Rattle.schema_laws.proofs.Traces.{run_field, run_end}
 use Rattle.schema_laws.proofs.Rows.{put_one_message, put_many_message, packed_by, packed_is, packed_nothing, fixed_nothing}
 use Rattle.schema_laws.proofs.Front.{varint_again, number_again, eight_again, long_again}
 use Rattle.schema_laws.proofs.Fixed.{eight_len, fixed_whole, fixed_again}
-
-ok_is : {A : Type 0} (x y : A) → (let r : Result A Fault = Ok x in let q : Result A Fault = Ok y in r ≡ q) → x ≡ y
-ok_is x y e = cc
 
 -- ---- a step over a text
 
@@ -34,6 +32,7 @@ Step S = ℕ → ℕ → Field → S → Result S Fault
 abbrev Passes : {S : Type 0} → Step S → S → S → ℕ → List ℕ → List ℕ → Type 0
 Passes step s t base x text = run step s (trace base (x ++ text)) ≡ run step t (trace (base + length x) text)
 
+-- the step takes a text of one field
 one_field : {S : Type 0} (step : Step S) (s t : S) (base : ℕ) (x text : List ℕ) (f : Field)
     → 0 < length x → field_at (x ++ text) ≡ Ok (f, text) → ((end : ℕ) → end ≡ base + length x → step base end f s ≡ Ok t) → Passes step s t base x text
 one_field {S = S} step s t base x text f some e h =
@@ -42,6 +41,7 @@ one_field {S = S} step s t base x text f some e h =
     ∙ ap (λ (m : ℕ). step base m f s >>= λ t. run step t (trace m text)) l
     ∙ ap (λ (r : Result S Fault). r >>= λ t. run step t (trace (base + length x) text)) (h (base + length x) refl)
 
+-- the step takes an empty text
 no_field : {S : Type 0} (step : Step S) (s t : S) (base : ℕ) (x text : List ℕ) → x ≡ [] → s ≡ t → Passes step s t base x text
 no_field {S = S} step s t base x text e h =
     let z : base ≡ base + length x = omega (arith, ap length e) in
@@ -56,6 +56,7 @@ both_pass step s t u base x y text a b =
 
 -- ---- singular rows
 
+-- a singular number, which is left out where it is 0
 number_row : {S : Type 0} (step : Step S) (s t : S) (base n v : ℕ) (text : List ℕ) → 0 < n → n < 2 ^ 29 → v < 2 ^ 64 → (v ≡ 0 → s ≡ t)
     → ((end : ℕ) → step base end (record { number = n; payload = Varint v }) s ≡ Ok t) → Passes step s t base (number_field n v) text
 unfolding number_field
@@ -68,20 +69,24 @@ number_row step s t base n v text some few fits zero_case h = elim (cases_eq v 0
       one_field step s t base (number_field n v) text (record { number = n; payload = Varint v }) l (ap (λ (y : List ℕ). field_at (y ++ text)) x ∙ number_again n v text some few fits) (λ end _. h end)
 ]
 
+-- a value that is not 0 is written
 fixed_is : (n v : ℕ) → (v ≡ 0 → ⊥) → fixed_field n v ≡ varint (n * 8 + 1) ++ to_le_bytes w64 v
 unfolding fixed_field
 fixed_is n v ne = let b : (v == 0) ≡ false = ne_eqb _ _ ne in rw b refl
 
+-- and 0 is left out
 fixed_none : (n v : ℕ) → v ≡ 0 → fixed_field n v ≡ []
 unfolding fixed_field
 fixed_none n v e = let b : (v == 0) ≡ true = eq-eqb _ _ e in rw b refl
 
+-- the step takes a text of eight bytes behind a tag
 eight_pass : {S : Type 0} (step : Step S) (s t : S) (base n : ℕ) (b text x : List ℕ) → 0 < n → n < 2 ^ 29 → length b ≡ 8 → x ≡ varint (n * 8 + 1) ++ b
     → ((end : ℕ) → step base end (record { number = n; payload = Eight b }) s ≡ Ok t) → Passes step s t base x text
 eight_pass step s t base n b text x some few len e h =
     let l : 0 < length x = omega (arith, ap length e, length-append (varint (n * 8 + 1)) b, varint_some (n * 8 + 1)) in
     one_field step s t base x text (record { number = n; payload = Eight b }) l (ap (λ (y : List ℕ). field_at (y ++ text)) e ∙ eight_again n b text some few len) (λ end _. h end)
 
+-- a singular eight-byte value
 fixed_row : {S : Type 0} (step : Step S) (s t : S) (base n v : ℕ) (text : List ℕ) → 0 < n → n < 2 ^ 29 → (v ≡ 0 → s ≡ t)
     → ((end : ℕ) → step base end (record { number = n; payload = Eight (to_le_bytes w64 v) }) s ≡ Ok t) → Passes step s t base (fixed_field n v) text
 fixed_row step s t base n v text some few zero_case h = elim (cases_eq v 0) [
@@ -89,6 +94,7 @@ fixed_row step s t base n v text some few zero_case h = elim (cases_eq v 0) [
   | inr ne ↦ eight_pass step s t base n (to_le_bytes w64 v) text (fixed_field n v) some few (eight_len v) (fixed_is n v ne) h
 ]
 
+-- bytes behind a tag and a length, which are left out where they are empty
 bytes_row : {S : Type 0} (step : Step S) (s t : S) (base n : ℕ) (b text : List ℕ) → 0 < n → n < 2 ^ 29 → length b < 2 ^ 64 → (b ≡ [] → s ≡ t)
     → ((end : ℕ) → step base end (record { number = n; payload = Long b }) s ≡ Ok t) → Passes step s t base (bytes_field n b) text
 unfolding bytes_field
@@ -101,6 +107,7 @@ bytes_row step s t base n b text some few fits zero_case h = elim (cases_eq (len
       one_field step s t base (bytes_field n b) text (record { number = n; payload = Long b }) l (ap (λ (y : List ℕ). field_at (y ++ text)) x ∙ long_again n b text some few fits) (λ end _. h end)
 ]
 
+-- the number of 0 is the default
 from_zero : (w : Format) → number_from w 0 ≡ number_zero w
 from_zero U32 = refl
 from_zero U64 = refl
@@ -108,17 +115,11 @@ from_zero I32 = refl
 from_zero I64 = refl
 from_zero Flag = refl
 
-bind_ok : {A : Type 0} (r : Result A Fault) → r ≡ (r >>= λ w. Ok w)
-bind_ok (Ok x) = refl
-bind_ok (Err e) = refl
-
-bind_assoc : {A B C : Type 0} (r : Result A Fault) (f : A → B) (g : B → C) → ((r >>= λ x. Ok (f x)) >>= λ y. Ok (g y)) ≡ (r >>= λ x. Ok (g (f x)))
-bind_assoc (Ok x) f g = refl
-bind_assoc (Err e) f g = refl
-
+-- a text that is UTF-8 is read
 text_again : (at : ℕ) (b : List ℕ) → is_utf8 b ≡ true → text_of at b ≡ Ok b
 text_again at b e = cond-true (is_utf8 b) (Ok b) (Err (fault_at at NotUtf8)) e
 
+-- a singular number of a format
 scalar_row : (w : Format) {S : Type 0} (step : Step S) (inject : NumberValue w → S) (base n : ℕ) (x : NumberValue w) (text : List ℕ) → 0 < n → n < 2 ^ 29 → FitsNumber w x
     → ((end : ℕ) → step base end (record { number = n; payload = Varint (number_to w x) }) (inject (number_zero w)) ≡ Ok (inject (number_from w (number_to w x))))
     → Passes step (inject (number_zero w)) (inject x) base (number_field n (number_to w x)) text
@@ -135,6 +136,7 @@ ReadAgain k = (x : Value k) → Fits k x → (base : ℕ) → merge k (empty k) 
 abbrev TakesOne : {S : Type 0} → (k : Shape) → Step S → (Value k → S) → ℕ → ℕ → Type 0
 TakesOne k step inject base n = (end : ℕ) (p : Payload) → step base end (record { number = n; payload = p }) (inject (empty k)) ≡ (put_one k (take_field k) base end p (empty k) >>= λ y. Ok (inject y))
 
+-- a singular message
 message_row : (k : Shape) → IsMessage k → {S : Type 0} (step : Step S) (inject : Value k → S) (base n : ℕ) (x : Value k) (text : List ℕ) → 0 < n → n < 2 ^ 29
     → Fits k x → length (spell k x) < 2 ^ 64 → ReadAgain k → TakesOne k step inject base n
     → Passes step (inject (empty k)) (inject x) base (bytes_field n (spell k x)) text
@@ -143,6 +145,7 @@ message_row k m step inject base n x text some few fits small again takes =
     (λ e. ap inject (ok_is (empty k) x (sym (run_end (take_field k) (empty k) 0 [] refl) ∙ ap (λ (y : List ℕ). run (take_field k) (empty k) (trace 0 y)) (sym e) ∙ again x fits 0)))
     (λ end. takes end (Long (spell k x)) ∙ ap (λ (r : Result (Value k) Fault). r >>= λ y. Ok (inject y)) (put_one_message k (take_field k) base end (spell k x) (empty k) m ∙ again x fits (end - length (spell k x))))
 
+-- a singular row of any shape
 row_one : (k : Shape) {S : Type 0} (step : Step S) (inject : Value k → S) (base n : ℕ) (x : Value k) (text : List ℕ) → 0 < n → n < 2 ^ 29
     → Fits k x → length (spell k x) < 2 ^ 64 → (IsMessage k → ReadAgain k) → TakesOne k step inject base n
     → Passes step (inject (empty k)) (inject x) base (spell_one k (spell k) n x) text
@@ -162,6 +165,7 @@ row_one k step inject base n x text some few fits small again takes = message_ro
 
 -- ---- repeated rows
 
+-- packed numbers are read again
 packed_again : (w : Format) (P : NumberValue w → Type 0) → ((v : NumberValue w) → P v → FitsNumber w v) → (vs : List (NumberValue w)) → Each P vs → packed w (numbers_text w vs) ≡ Ok vs
 packed_again w P good [] fits = packed_nothing w
 packed_again w P good (v ∷ vs) fits =
@@ -171,23 +175,23 @@ packed_again w P good (v ∷ vs) fits =
     ∙ ap (λ (r : Result (List (NumberValue w)) Reason). r >>= λ ns. Ok (number_from w (number_to w v) ∷ ns)) (packed_again w P good vs fits.1)
     ∙ ap (λ (x : NumberValue w). Ok (x ∷ vs)) g.1
 
-reason_ok : {A : Type 0} (x y : A) → (let r : Result A Reason = Ok x in let q : Result A Reason = Ok y in r ≡ q) → x ≡ y
-reason_ok x y e = cc
-
+-- a repeated row of numbers
 numbers_row : (w : Format) {S : Type 0} (step : Step S) (inject : List (NumberValue w) → S) (base n : ℕ) (vs : List (NumberValue w)) (text : List ℕ) → 0 < n → n < 2 ^ 29
     → packed w (numbers_text w vs) ≡ Ok vs → length (numbers_text w vs) < 2 ^ 64
     → ((end : ℕ) → step base end (record { number = n; payload = Long (numbers_text w vs) }) (inject []) ≡ (put_packed w base (numbers_text w vs) [] >>= λ y. Ok (inject y)))
     → Passes step (inject []) (inject vs) base (bytes_field n (numbers_text w vs)) text
 numbers_row w step inject base n vs text some few again small takes =
     bytes_row step (inject []) (inject vs) base n (numbers_text w vs) text some few small
-    (λ e. ap inject (reason_ok [] vs (sym (packed_nothing w) ∙ ap (packed w) (sym e) ∙ again)))
+    (λ e. ap inject (ok_is [] vs (sym (packed_nothing w) ∙ ap (packed w) (sym e) ∙ again)))
     (λ end. takes end ∙ ap (λ (r : Result (List (NumberValue w)) Reason). (at_place base r >>= λ ns. Ok ([] ++ ns)) >>= λ y. Ok (inject y)) again)
 
+-- packed eight-byte values are read again
 fixed_packed : (at : ℕ) (vs : List ℕ) → packed_fixed (fixed_text vs) ≡ vs → put_fixed at (Long (fixed_text vs)) [] ≡ Ok vs
 fixed_packed at vs again =
     cond-true (length (fixed_text vs) % 8 == 0) (Ok ([] ++ packed_fixed (fixed_text vs))) (Err (fault_at at PackedLength)) (eq-eqb _ _ (fixed_whole vs))
     ∙ ap (λ (x : List ℕ). let r : Result (List ℕ) Fault = Ok x in r) again
 
+-- a repeated row of eight-byte values
 eights_row : {S : Type 0} (step : Step S) (inject : List ℕ → S) (base n : ℕ) (vs : List ℕ) (text : List ℕ) → 0 < n → n < 2 ^ 29
     → packed_fixed (fixed_text vs) ≡ vs → length (fixed_text vs) < 2 ^ 64
     → ((end : ℕ) → step base end (record { number = n; payload = Long (fixed_text vs) }) (inject []) ≡ (put_fixed base (Long (fixed_text vs)) [] >>= λ y. Ok (inject y)))
@@ -221,6 +225,7 @@ FitsItem k y = Fits k y × (length (spell k y) < 2 ^ 64)
 abbrev TakesMany : {S : Type 0} → (k : Shape) → Step S → (List (Value k) → S) → ℕ → Type 0
 TakesMany k step inject n = (at end : ℕ) (p : Payload) (vs : List (Value k)) → step at end (record { number = n; payload = p }) (inject vs) ≡ (put_many k (take_field k) at end p vs >>= λ y. Ok (inject y))
 
+-- a repeated row of messages
 messages_row : (k : Shape) → IsMessage k → {S : Type 0} (step : Step S) (inject : List (Value k) → S) (base n : ℕ) (xs : List (Value k)) (text : List ℕ) → 0 < n → n < 2 ^ 29
     → Each (FitsItem k) xs → ReadAgain k → TakesMany k step inject n
     → Passes step (inject []) (inject xs) base (items_text n (map (spell k) xs)) text
@@ -232,6 +237,7 @@ messages_row k m step inject base n xs text some few fits again takes =
     [] xs fits base text
     ∙ ap (λ (y : List ℕ). run step (inject xs) (trace (base + length y) text)) (sym e)
 
+-- a repeated row of any shape
 row_many : (k : Shape) {S : Type 0} (step : Step S) (inject : List (Value k) → S) (base n : ℕ) (xs : List (Value k)) (text : List ℕ) → 0 < n → n < 2 ^ 29
     → Each (FitsItem k) xs → FitsTogether k xs → (IsMessage k → ReadAgain k) → TakesMany k step inject n
     → Passes step (inject []) (inject xs) base (spell_many k (spell k) n xs) text
@@ -255,12 +261,12 @@ row_many k step inject base n xs text some few fits small again takes = messages
 -- a row whose number is that of the field takes it
 linked_here : {A B C S : Type 0} (n : ℕ) (r : Result A Fault) (q : Result B Fault) (h : A → C) (i : B → C) (inject : C → S)
     → (cond (n == n) (r >>= λ x. Ok (h x)) (q >>= λ x. Ok (i x)) >>= λ w. Ok (inject w)) ≡ (r >>= λ x. Ok (inject (h x)))
-linked_here n r q h i inject = let e : (n == n) ≡ true = eq-eqb n n refl in rw e (bind_assoc r h inject)
+linked_here n r q h i inject = let e : (n == n) ≡ true = eq-eqb n n refl in rw e (map_map r h inject)
 
 -- and a row of another number leaves it to the rows behind it
 linked_there : {A B C S : Type 0} (m n : ℕ) (r : Result A Fault) (q : Result B Fault) (h : A → C) (i : B → C) (inject : C → S) → (m ≡ n → ⊥)
     → (cond (m == n) (r >>= λ x. Ok (h x)) (q >>= λ x. Ok (i x)) >>= λ w. Ok (inject w)) ≡ (q >>= λ x. Ok (inject (i x)))
-linked_there m n r q h i inject ne = let e : (m == n) ≡ false = ne_eqb m n ne in rw e (bind_assoc q i inject)
+linked_there m n r q h i inject ne = let e : (m == n) ≡ false = ne_eqb m n ne in rw e (map_map q i inject)
 
 -- the step takes the fields of the rows of s into the part of its state that inject says
 abbrev Links : {S : Type 0} → (s : Shape) → Step S → (Value s → S) → Type 0
@@ -275,7 +281,7 @@ Round s = (S : Type 0) (step : Step S) (inject : Value s → S) → Links s step
 again_of : (s : Shape) → Round s → ReadAgain s
 again_of s round v fits base =
     ap (λ (y : List ℕ). run (take_field s) (empty s) (trace base y)) (sym (append-nil (spell s v)))
-    ∙ round (Value s) (take_field s) (λ u. u) (λ at end f u h. bind_ok (take_field s at end f u)) v fits base []
+    ∙ round (Value s) (take_field s) (λ u. u) (λ at end f u h. map_same (take_field s at end f u)) v fits base []
     ∙ run_end (take_field s) v (base + length (spell s v)) [] refl
 
 -- What is spelled is read, whatever follows it, as a part of a greater message.

@@ -1,5 +1,5 @@
 -- Packed eight-byte values: the function against the relation.
-use Rattle.std.proofs.Common.{◌≡◌, ℕ, zero, suc, ◌+◌, ◌*◌, ◌/◌, ◌%◌, List, [], ◌∷◌, ◌++◌, length, map, take, drop, refl, sym, ap, ◌∙◌, arith, length-drop}
+use Rattle.std.proofs.Common.{◌≡◌, ℕ, zero, suc, ◌*◌, ◌/◌, ◌%◌, List, [], ◌∷◌, length, map, take, drop, refl, sym, ap, ◌∙◌, arith, length-drop}
 use Rattle.std.specs.Int.{w64, from_le_bytes}
 use Rattle.std.proofs.lemmas.List.{length-take, take-append-drop, nil_from_length}
 use Rattle.schema.specs.Merge.{fixed_upto, packed_fixed}
@@ -7,10 +7,12 @@ use Rattle.schema.specs.Spelling.{SpellsEights}
 use Rattle.schema_laws.proofs.Rows.{fixed_nothing}
 use Rattle.schema_laws.proofs.Fixed.{fixed_front}
 
+-- one value more
 fixed_more : (k : ℕ) (b : List ℕ) → fixed_upto (suc k) b ≡ from_le_bytes w64 (take 8 b) ∷ fixed_upto k (drop 8 b)
 unfolding fixed_upto
 fixed_more k b = refl
 
+-- and none
 fixed_over : (b : List ℕ) → fixed_upto 0 b ≡ []
 unfolding fixed_upto
 fixed_over b = refl
@@ -19,6 +21,7 @@ fixed_over b = refl
 abbrev pub Pieces : List ℕ → List ℕ → Type 0
 Pieces b vs = (bs : List (List ℕ)) × SpellsEights b bs × (vs ≡ map (from_le_bytes w64) bs)
 
+-- so many values are so many pieces
 eights_upto : (k : ℕ) (b : List ℕ) → length b ≡ 8 * k → Pieces b (fixed_upto k b)
 eights_upto zero b e = ([], nil_from_length b (omega arith), fixed_over b)
 eights_upto (suc k) b e =

@@ -1,5 +1,5 @@
 -- Eight-byte values, also packed.
-use Rattle.std.proofs.Common.{◌≡◌, ℕ, suc, ◌+◌, ◌*◌, ◌/◌, ◌%◌, ◌^◌, ◌<◌, List, [], ◌∷◌, ◌++◌, length, take, drop, refl, ap, ◌∙◌, arith, length-append}
+use Rattle.std.proofs.Common.{◌≡◌, ℕ, suc, ◌*◌, ◌/◌, ◌%◌, ◌^◌, ◌<◌, List, [], ◌∷◌, ◌++◌, length, drop, refl, ap, ◌∙◌, arith, length-append}
 use Rattle.std.specs.Int.{w64, from_le_bytes, to_le_bytes}
 use Rattle.std.proofs.lemmas.List.{take_at, drop_at}
 use Rattle.std.proofs.lemmas.Nat.{from_le_bytes-to_le_bytes_8}
@@ -8,6 +8,7 @@ use Rattle.schema.specs.Spell.{fixed_text}
 use Rattle.schema.specs.Fits.{Each}
 use Rattle.schema_laws.proofs.Rows.{packed_fixed_is, fixed_nothing}
 
+-- a value has eight bytes
 pub eight_len : (v : ℕ) → length (to_le_bytes w64 v) ≡ 8
 eight_len v = refl
 
@@ -19,6 +20,7 @@ fixed_front b rest e =
     ∙ ap (λ (x : List ℕ). from_le_bytes w64 x ∷ fixed_upto (length rest / 8) (drop 8 (b ++ rest))) (take_at b rest 8 e)
     ∙ ap (λ (x : List ℕ). from_le_bytes w64 b ∷ fixed_upto (length rest / 8) x) (drop_at b rest 8 e)
 
+-- eight bytes in front of so many values
 len_step : (b rest : List ℕ) (n : ℕ) → length b ≡ 8 → length rest ≡ 8 * n → length (b ++ rest) ≡ 8 * suc n
 len_step b rest n e f = omega (arith, length-append b rest)
 
@@ -27,6 +29,7 @@ pub fixed_len : (vs : List ℕ) → length (fixed_text vs) ≡ 8 * length vs
 fixed_len [] = refl
 fixed_len (v ∷ vs) = len_step (to_le_bytes w64 v) (fixed_text vs) (length vs) (eight_len v) (fixed_len vs)
 
+-- the length of a packed text is a multiple of 8
 pub fixed_whole : (vs : List ℕ) → length (fixed_text vs) % 8 ≡ 0
 fixed_whole vs = let e = fixed_len vs in let n = length vs in omega arith
 

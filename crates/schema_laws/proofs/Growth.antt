@@ -1,31 +1,28 @@
 -- A value that is read is in its range, and each field makes its spelling longer by sixteen times its own bytes at most.
-use Rattle.std.proofs.Common.{◌≡◌, ℕ, zero, suc, ◌+◌, ◌*◌, ◌-◌, ◌/◌, ◌%◌, ◌^◌, ◌<◌, ◌≤◌, Bool, true, false, cond, List, [], ◌∷◌, ◌++◌, length, map, Result, Ok, Err, refl, sym, ap, subst, ◌∙◌, arith, length-append, inl, inr}
+use Rattle.std.proofs.Common.{◌≡◌, ℕ, zero, suc, ◌+◌, ◌*◌, ◌-◌, ◌^◌, ◌<◌, ◌≤◌, Bool, true, false, cond, List, [], ◌++◌, length, Ok, refl, sym, ap, subst, ◌∙◌, arith, length-append, inl, inr}
 use Rattle.std.specs.Prelude.{◌==◌}
 use Rattle.std.specs.Int.{w64, to_le_bytes, from_le_bytes}
-use Rattle.std.specs.List.{flat_map}
 use Rattle.std.specs.Str.{is_utf8}
-use Rattle.std.proofs.lemmas.Bool.{cases_eq, eq-eqb, ne_eqb, eqb-true}
-use Rattle.std.proofs.lemmas.Grind.{flat_map-append}
-use Rattle.std.proofs.lemmas.List.{map-append}
+use Rattle.std.proofs.lemmas.Bool.{cases_eq, eq-eqb, ne_eqb}
 use Rattle.schema.specs.Field.{Eight, Field, Long, Payload, Varint, greatest_number}
-use Rattle.schema.specs.Fault.{Fault, NotUtf8, fault_at}
+use Rattle.schema.specs.Fault.{NotUtf8, fault_at}
 use Rattle.schema.specs.Steps.{trace}
 use Rattle.schema.specs.Shape.{Any, Bytes, Fixed, Format, I32, Index, IsMessage, Many, Number, NumberValue, One, Shape, Text, Unbuilt, Value, number_from}
 use Rattle.schema.specs.Merge.{merge, one_bytes, one_fixed, one_number, one_text, put_one, run, take_field}
 use Rattle.schema.specs.Spell.{bytes_field, fixed_field, long_field, number_field, number_to, spell, spell_one, varint}
 use Rattle.schema.specs.Fits.{Each, FitsNumber}
+use Rattle.schema_laws.proofs.Results.{ok_is, bind_ok, checked_ok}
 use Rattle.schema_laws.proofs.Onto.{varint_at_most, long_len}
 use Rattle.schema_laws.proofs.Traces.{trace_end}
-use Rattle.schema_laws.proofs.Rows.{IsShort, put_one_message, put_many_message, put_one_short, put_many_short}
-use Rattle.schema_laws.proofs.Fixed.{eight_len, fixed_len}
+use Rattle.schema_laws.proofs.Rows.{put_one_message, put_one_short}
+use Rattle.schema_laws.proofs.Fixed.{eight_len}
 use Rattle.schema_laws.proofs.Spelled.{Begins, begins}
-use Rattle.schema_laws.proofs.Packed.{packed_right}
-use Rattle.schema_laws.proofs.RowByRow.{ok_is, bind_ok}
-use Rattle.schema_laws.proofs.Lists.{Octets, each_append, each_left, each_right}
-use Rattle.schema_laws.proofs.Ranges.{number_fits, numbers_fit, fixed_below, eights_fit, PayloadInRange, FieldInRange, field_cost, field_in_range}
+use Rattle.schema_laws.proofs.Lists.{Octets, each_left, each_right}
+use Rattle.schema_laws.proofs.Ranges.{number_fits, fixed_below, PayloadInRange, FieldInRange, field_cost, field_in_range}
 
 -- ---- lengths of fields
 
+-- a number's field has twenty bytes at most
 number_len : (n v : ℕ) → n ≤ greatest_number → v < 2 ^ 64 → length (number_field n v) ≤ 20
 unfolding number_field
 number_len n v le lt = elim (cases_eq v 0) [
@@ -42,20 +39,24 @@ number_len n v le lt = elim (cases_eq v 0) [
 eight_field_len : (n : ℕ) (b : List ℕ) → n ≤ greatest_number → length b ≡ 8 → length (varint (n * 8 + 1) ++ b) ≤ 18
 eight_field_len n b le e = let a = varint_at_most (n * 8 + 1) (omega arith) in omega (arith, length-append (varint (n * 8 + 1)) b)
 
+-- an eight-byte value's field has eighteen bytes at most
 fixed_field_len : (n v : ℕ) → n ≤ greatest_number → length (fixed_field n v) ≤ 18
 unfolding fixed_field
 fixed_field_len n v le = fixed_cases (v == 0)
   where
-  fixed_cases : (t : Bool) → length (cond t [] (varint (n * 8 + 1) ++ to_le_bytes w64 v)) ≤ 18
-  fixed_cases true = omega arith
-  fixed_cases false = eight_field_len n (to_le_bytes w64 v) le (eight_len v)
+    fixed_cases : (t : Bool) → length (cond t [] (varint (n * 8 + 1) ++ to_le_bytes w64 v)) ≤ 18
+    fixed_cases true = omega arith
+    fixed_cases false = eight_field_len n (to_le_bytes w64 v) le (eight_len v)
 
+-- a field of bytes is twenty longer than they are, at most
 pub long_field_len : (n : ℕ) (b : List ℕ) → n ≤ greatest_number → length b < 2 ^ 64 → length (long_field n b) ≤ 20 + length b
 long_field_len n b le lt = let a = varint_at_most (n * 8 + 2) (omega arith) in let c = varint_at_most (length b) lt in omega (arith, long_len n b)
 
+-- and no shorter than they are
 pub long_field_le : (n : ℕ) (b : List ℕ) → length b ≤ length (long_field n b)
 long_field_le n b = omega (arith, long_len n b)
 
+-- the same where empty bytes are left out
 pub bytes_field_len : (n : ℕ) (b : List ℕ) → n ≤ greatest_number → length b < 2 ^ 64 → length (bytes_field n b) ≤ 20 + length b
 unfolding bytes_field
 bytes_field_len n b le lt = elim (cases_eq (length b) 0) [
@@ -63,6 +64,7 @@ bytes_field_len n b le lt = elim (cases_eq (length b) 0) [
   | inr ne ↦ let t : (length b == 0) ≡ false = ne_eqb _ _ ne in let x : bytes_field n b ≡ long_field n b = rw t refl in omega (arith, ap length x, long_field_len n b le lt)
 ]
 
+-- and it is no shorter than the bytes
 pub bytes_field_le : (n : ℕ) (b : List ℕ) → length b ≤ length (bytes_field n b)
 unfolding bytes_field
 bytes_field_le n b = elim (cases_eq (length b) 0) [
@@ -92,9 +94,11 @@ InRange s x = Unit {0}
 abbrev pub Grows : {A : Type 0} → (A → Type 0) → (A → ℕ) → A → ℕ → A → Type 0
 Grows In size u cost v = In v × (size v ≤ size u + 16 * cost)
 
+-- a value that stays does not grow
 pub stays : {A : Type 0} (In : A → Type 0) (size : A → ℕ) (u v : A) (cost : ℕ) → u ≡ v → In u → Grows In size u cost v
 stays {A} In size u v cost e i = subst (λ (y : A). Grows In size u cost y) e (i, omega arith)
 
+-- a value that becomes another in its range
 pub becomes : {A : Type 0} (In : A → Type 0) (size : A → ℕ) (u x v : A) (cost : ℕ) → x ≡ v → In x → size x ≤ size u + 16 * cost → Grows In size u cost v
 becomes {A} In size u x v cost e i le = subst (λ (y : A). Grows In size u cost y) e (i, le)
 
@@ -109,6 +113,7 @@ pub record Keeps (s : Shape) : Type 0 where
 
 -- ---- a message
 
+-- fields that are read keep the value in its range, by the first one
 keeps_step : (s : Shape) → Keeps s → (base : ℕ) (bytes : List ℕ) (u v : Value s) → Begins base bytes
     → ((b : ℕ) (rest : List ℕ) (w : Value s) → length rest < length bytes → Octets rest → InRange s w → size s w + 16 * length rest < 2 ^ 64 → merge s w b rest ≡ Ok v → Grows (InRange s) (size s) w (length rest) v)
     → Octets bytes → InRange s u → size s u + 16 * length bytes < 2 ^ 64 → merge s u base bytes ≡ Ok v → Grows (InRange s) (size s) u (length bytes) v
@@ -128,18 +133,21 @@ keeps_step s k base bytes u v (Begins.met_one one rest f is sp lt q) ih o i room
     let there = more.1 in
     (more.0, omega arith)
 
+-- for texts up to a length
 keeps_upto : (s : Shape) → Keeps s → (k base : ℕ) (bytes : List ℕ) (u v : Value s) → length bytes < k → Octets bytes → InRange s u → size s u + 16 * length bytes < 2 ^ 64
     → merge s u base bytes ≡ Ok v → Grows (InRange s) (size s) u (length bytes) v
 keeps_upto s keep zero base bytes u v lt o i room e = absurd (omega arith)
 keeps_upto s keep (suc k) base bytes u v lt o i room e =
     keeps_step s keep base bytes u v (begins base bytes) (λ b rest w less oct inr room e. keeps_upto s keep k b rest w v (omega arith) oct inr room e) o i room e
 
+-- bytes that are read keep the value in its range
 pub message_keeps : (s : Shape) → Keeps s → (base : ℕ) (bytes : List ℕ) (u v : Value s) → Octets bytes → InRange s u → size s u + 16 * length bytes < 2 ^ 64
     → merge s u base bytes ≡ Ok v → Grows (InRange s) (size s) u (length bytes) v
 message_keeps s keep base bytes u v o i room e = keeps_upto s keep (suc (length bytes)) base bytes u v (omega arith) o i room e
 
 -- ---- singular rows
 
+-- a singular number
 number_keeps : (w : Format) (n : ℕ) → n ≤ greatest_number → (p : Payload) (u v : NumberValue w) → PayloadInRange p → FitsNumber w u → one_number w p u ≡ v
     → Grows (FitsNumber w) (λ x. length (number_field n (number_to w x))) u (field_cost p) v
 number_keeps w n le (Varint m) u v r i e =
@@ -147,32 +155,31 @@ number_keeps w n le (Varint m) u v r i e =
     becomes (FitsNumber w) (λ x. length (number_field n (number_to w x))) u (number_from w m) v 2 e g (let l = number_len n (number_to w (number_from w m)) le g.0 in omega arith)
 number_keeps w n le p u v r i e = stays (FitsNumber w) (λ x. length (number_field n (number_to w x))) u v (field_cost p) e i
 
+-- a singular eight-byte value
 fixed_keeps : (n : ℕ) → n ≤ greatest_number → (p : Payload) (u v : ℕ) → PayloadInRange p → u < 2 ^ 64 → one_fixed p u ≡ v
     → Grows (λ x. x < 2 ^ 64) (λ x. length (fixed_field n x)) u (field_cost p) v
 fixed_keeps n le (Eight b) u v r i e =
     becomes (λ x. x < 2 ^ 64) (λ x. length (fixed_field n x)) u (from_le_bytes w64 b) v 2 e (fixed_below b r) (fits (from_le_bytes w64 b))
   where
-  fits : (x : ℕ) → length (fixed_field n x) ≤ length (fixed_field n u) + 16 * 2
-  fits x = let l = fixed_field_len n x le in omega arith
+    fits : (x : ℕ) → length (fixed_field n x) ≤ length (fixed_field n u) + 16 * 2
+    fits x = let l = fixed_field_len n x le in omega arith
 fixed_keeps n le p u v r i e = stays (λ x. x < 2 ^ 64) (λ x. length (fixed_field n x)) u v (field_cost p) e i
 
 -- bytes in place of others
 bytes_grow : (n : ℕ) → n ≤ greatest_number → (a b : List ℕ) → length (bytes_field n a) + 16 * (length b + 2) < 2 ^ 64 → length (bytes_field n b) ≤ length (bytes_field n a) + 16 * (length b + 2)
 bytes_grow n le a b room = let l = bytes_field_len n b le (omega arith) in omega arith
 
+-- singular bytes
 bytes_keep : (In : List ℕ → Type 0) (n : ℕ) → n ≤ greatest_number → (p : Payload) (u v : List ℕ) → In u → length (bytes_field n u) + 16 * field_cost p < 2 ^ 64
     → one_bytes p u ≡ v → In v → Grows In (λ x. length (bytes_field n x)) u (field_cost p) v
 bytes_keep In n le (Long b) u v i room e j = becomes In (λ x. length (bytes_field n x)) u b v (length b + 2) e (subst In (sym e) j) (bytes_grow n le u b room)
 bytes_keep In n le p u v i room e j = stays In (λ x. length (bytes_field n x)) u v (field_cost p) e i
 
-pub text_is : (t : Bool) (b v : List ℕ) (f : Fault) → (let r : Result (List ℕ) Fault = cond t (Ok b) (Err f) in r ≡ Ok v) → (t ≡ true) × (b ≡ v)
-text_is true b v f e = (refl, ok_is b v e)
-text_is false b v f e = absurd cc
-
+-- a singular text
 text_keeps : (n : ℕ) → n ≤ greatest_number → (at : ℕ) (p : Payload) (u v : List ℕ) → is_utf8 u ≡ true → length (bytes_field n u) + 16 * field_cost p < 2 ^ 64
     → one_text at p u ≡ Ok v → Grows (λ x. is_utf8 x ≡ true) (λ x. length (bytes_field n x)) u (field_cost p) v
 text_keeps n le at (Long b) u v i room e =
-    let t = text_is (is_utf8 b) b v (fault_at at NotUtf8) e in
+    let t = checked_ok (is_utf8 b) b v (fault_at at NotUtf8) e in
     bytes_keep (λ x. is_utf8 x ≡ true) n le (Long b) u v i room t.1 (ap is_utf8 (sym t.1) ∙ t.0)
 text_keeps n le at p u v i room e = stays (λ x. is_utf8 x ≡ true) (λ x. length (bytes_field n x)) u v (field_cost p) (ok_is u v e) i
 
@@ -181,6 +188,7 @@ message_grows : (n : ℕ) → n ≤ greatest_number → (a c : List ℕ) (more :
     → length (bytes_field n c) ≤ length (bytes_field n a) + 16 * (more + 2)
 message_grows n le a c more room h = let g = bytes_field_le n a in let l = bytes_field_len n c le (omega arith) in omega arith
 
+-- a singular message
 one_message : (k : Shape) → IsMessage k → Keeps k → (n : ℕ) → n ≤ greatest_number → (at end : ℕ) (p : Payload) (u v : Value k) → PayloadInRange p → InRange k u
     → length (bytes_field n (spell k u)) + 16 * field_cost p < 2 ^ 64 → put_one k (take_field k) at end p u ≡ Ok v
     → Grows (InRange k) (λ x. length (bytes_field n (spell k x))) u (field_cost p) v
@@ -191,6 +199,7 @@ one_message k m keep n le at end (Long b) u v r i room e =
 one_message k m keep n le at end p u v r i room e =
     stays (InRange k) (λ x. length (bytes_field n (spell k x))) u v (field_cost p) (ok_is u v (sym (put_one_short k (take_field k) at end p u m tt) ∙ e)) i
 
+-- a singular row of any shape
 pub one_keeps : (k : Shape) → Keeps k → (n : ℕ) → n ≤ greatest_number → (at end : ℕ) (p : Payload) (u v : Value k) → PayloadInRange p → InRange k u
     → length (spell_one k (spell k) n u) + 16 * field_cost p < 2 ^ 64 → put_one k (take_field k) at end p u ≡ Ok v
     → Grows (InRange k) (λ x. length (spell_one k (spell k) n x)) u (field_cost p) v

@@ -1,8 +1,7 @@
 -- The same for repeated rows, and for whole messages.
-use Rattle.std.proofs.Common.{◌≡◌, ℕ, zero, suc, ◌+◌, ◌*◌, ◌-◌, ◌/◌, ◌%◌, ◌^◌, ◌<◌, ◌≤◌, Bool, true, false, cond, List, [], ◌∷◌, ◌++◌, length, map, Result, Ok, Err, refl, sym, ap, subst, ◌∙◌, arith, length-append, inl, inr}
+use Rattle.std.proofs.Common.{◌≡◌, ℕ, ◌+◌, ◌*◌, ◌-◌, ◌/◌, ◌%◌, ◌^◌, ◌<◌, ◌≤◌, Bool, true, false, cond, List, [], ◌∷◌, ◌++◌, length, map, Result, Ok, Err, refl, sym, ap, subst, ◌∙◌, arith, length-append}
 use Rattle.std.specs.Prelude.{◌==◌}
 use Rattle.std.specs.Int.{w64, to_le_bytes, from_le_bytes}
-use Rattle.std.specs.List.{flat_map}
 use Rattle.std.specs.Str.{is_utf8}
 use Rattle.std.proofs.lemmas.Bool.{eqb-true}
 use Rattle.std.proofs.lemmas.Str.{IsUtf8-nil, is_utf8-from_IsUtf8}
@@ -15,14 +14,14 @@ use Rattle.schema.specs.Shape.{Any, Bytes, Fixed, Flag, Format, I32, I64, Index,
 use Rattle.schema.specs.Merge.{at_place, merge, packed, packed_fixed, put_bytes, put_fixed, put_many, put_numbers, put_one, put_texts, take_field, text_of}
 use Rattle.schema.specs.Spell.{bytes_field, fixed_field, fixed_text, items_text, long_field, number_field, number_to, numbers_text, spell, spell_many, spell_one, varint}
 use Rattle.schema.specs.Fits.{Each, FitsNumber}
+use Rattle.schema_laws.proofs.Results.{ok_is, bind_ok, checked_ok, refused_ok}
 use Rattle.schema_laws.proofs.Onto.{varint_at_most}
-use Rattle.schema_laws.proofs.Rows.{IsShort, put_many_message, put_many_short}
+use Rattle.schema_laws.proofs.Rows.{put_many_message, put_many_short}
 use Rattle.schema_laws.proofs.Fixed.{fixed_len}
 use Rattle.schema_laws.proofs.Packed.{packed_right}
-use Rattle.schema_laws.proofs.RowByRow.{ok_is, bind_ok}
-use Rattle.schema_laws.proofs.Lists.{Octets, each_append}
-use Rattle.schema_laws.proofs.Ranges.{number_fits, numbers_fit, fixed_below, eights_fit, PayloadInRange, FieldInRange, field_cost}
-use Rattle.schema_laws.proofs.Growth.{long_field_len, bytes_field_len, bytes_field_le, NoneIn, InRange, Grows, stays, becomes, size, Keeps, message_keeps, one_keeps, text_is}
+use Rattle.schema_laws.proofs.Lists.{each_append}
+use Rattle.schema_laws.proofs.Ranges.{number_fits, numbers_fit, fixed_below, eights_fit, PayloadInRange, field_cost}
+use Rattle.schema_laws.proofs.Growth.{long_field_len, bytes_field_len, bytes_field_le, NoneIn, InRange, Grows, stays, becomes, size, Keeps, message_keeps, one_keeps}
 
 -- the bytes of a packed field, to which others come
 packed_grow : (n : ℕ) → n ≤ greatest_number → (a b c : List ℕ) (cost : ℕ) → c ≡ a ++ b → 20 + length b ≤ 16 * cost → length (bytes_field n a) + 16 * cost < 2 ^ 64
@@ -41,6 +40,7 @@ item_grows n le a b c cost e short room =
 
 -- ---- numbers
 
+-- each number of a packed text has ten bytes at most
 numbers_len : (w : Format) (vs : List (NumberValue w)) → Each (FitsNumber w) vs → length (numbers_text w vs) ≤ 10 * length vs
 numbers_len w [] i = omega arith
 numbers_len w (v ∷ vs) i =
@@ -48,6 +48,7 @@ numbers_len w (v ∷ vs) i =
     let b = numbers_len w vs i.1 in
     omega (arith, length-append (varint (number_to w v)) (numbers_text w vs))
 
+-- numbers that come behind others
 numbers_grow : (w : Format) (n : ℕ) → n ≤ greatest_number → (us ns vs : List (NumberValue w)) (cost : ℕ) → us ++ ns ≡ vs → Each (FitsNumber w) us → Each (FitsNumber w) ns → 20 + 10 * length ns ≤ 16 * cost
     → length (bytes_field n (numbers_text w us)) + 16 * cost < 2 ^ 64 → Grows (Each (FitsNumber w)) (λ xs. length (bytes_field n (numbers_text w xs))) us cost vs
 numbers_grow w n le us ns vs cost e i j short room =
@@ -55,6 +56,7 @@ numbers_grow w n le us ns vs cost e i j short room =
     becomes (Each (FitsNumber w)) (λ xs. length (bytes_field n (numbers_text w xs))) us (us ++ ns) vs cost e (each_append (FitsNumber w) us ns i j)
     (packed_grow n le (numbers_text w us) (numbers_text w ns) (numbers_text w (us ++ ns)) cost (flat_map-append (λ v. varint (number_to w v)) us ns) (omega arith) room)
 
+-- a packed payload gives numbers in their range, and no more of them than it has bytes
 packed_gives : (w : Format) (at : ℕ) (b : List ℕ) (r : Result (List (NumberValue w)) Reason) (us vs : List (NumberValue w)) → packed w b ≡ r
     → (at_place at r >>= λ ns. Ok (us ++ ns)) ≡ Ok vs → (ns : List (NumberValue w)) × (us ++ ns ≡ vs) × Each (FitsNumber w) ns × (length ns ≤ length b)
 packed_gives w at b (Err r) us vs q e = absurd cc
@@ -63,6 +65,7 @@ packed_gives w at b (Ok ns) us vs q e =
     let f = numbers_fit w b r.0 r.1 in
     (ns, ok_is (us ++ ns) vs e, subst (Each (FitsNumber w)) (sym r.2) f.0, omega (arith, ap length r.2, f.1))
 
+-- a repeated row of numbers
 numbers_keep : (w : Format) (n : ℕ) → n ≤ greatest_number → (at : ℕ) (p : Payload) (us vs : List (NumberValue w)) → PayloadInRange p → Each (FitsNumber w) us
     → length (bytes_field n (numbers_text w us)) + 16 * field_cost p < 2 ^ 64 → put_numbers w at p us ≡ Ok vs
     → Grows (Each (FitsNumber w)) (λ xs. length (bytes_field n (numbers_text w xs))) us (field_cost p) vs
@@ -75,54 +78,57 @@ numbers_keep w n le at p us vs r i room e = stays (Each (FitsNumber w)) (λ xs. 
 
 -- ---- eight-byte values
 
+-- eight-byte values in their range
 abbrev Fixeds : List ℕ → Type 0
 Fixeds vs = Each (λ v. v < 2 ^ 64) vs
 
+-- eight-byte values that come behind others
 fixed_grow : (n : ℕ) → n ≤ greatest_number → (us ns vs : List ℕ) (cost : ℕ) → us ++ ns ≡ vs → Fixeds us → Fixeds ns → 20 + 8 * length ns ≤ 16 * cost
     → length (bytes_field n (fixed_text us)) + 16 * cost < 2 ^ 64 → Grows Fixeds (λ xs. length (bytes_field n (fixed_text xs))) us cost vs
 fixed_grow n le us ns vs cost e i j short room =
     becomes Fixeds (λ xs. length (bytes_field n (fixed_text xs))) us (us ++ ns) vs cost e (each_append (λ v. v < 2 ^ 64) us ns i j)
     (packed_grow n le (fixed_text us) (fixed_text ns) (fixed_text (us ++ ns)) cost (flat_map-append (to_le_bytes w64) us ns) (eights (fixed_text ns) (fixed_len ns)) room)
   where
-  eights : (text : List ℕ) → length text ≡ 8 * length ns → 20 + length text ≤ 16 * cost
-  eights text l = omega arith
+    eights : (text : List ℕ) → length text ≡ 8 * length ns → 20 + length text ≤ 16 * cost
+    eights text l = omega arith
 
-whole_is : (t : Bool) (b v : List ℕ) (f : Fault) → (let r : Result (List ℕ) Fault = cond t (Ok b) (Err f) in r ≡ Ok v) → b ≡ v
-whole_is true b v f e = ok_is b v e
-whole_is false b v f e = absurd cc
-
+-- a repeated row of eight-byte values
 fixed_keep : (n : ℕ) → n ≤ greatest_number → (at : ℕ) (p : Payload) (us vs : List ℕ) → PayloadInRange p → Fixeds us
     → length (bytes_field n (fixed_text us)) + 16 * field_cost p < 2 ^ 64 → put_fixed at p us ≡ Ok vs → Grows Fixeds (λ xs. length (bytes_field n (fixed_text xs))) us (field_cost p) vs
 fixed_keep n le at (Eight b) us vs r i room e = fixed_grow n le us (from_le_bytes w64 b ∷ []) vs 2 (ok_is (us ++ from_le_bytes w64 b ∷ []) vs e) i (fixed_below b r, tt) (omega arith) room
 fixed_keep n le at (Long b) us vs r i room e =
     let f = eights_fit (length b / 8) b r in
     let len : length (packed_fixed b) ≡ length b / 8 = f.1 in
-    fixed_grow n le us (packed_fixed b) vs (length b + 2) (whole_is (length b % 8 == 0) (us ++ packed_fixed b) vs (fault_at at PackedLength) e) i f.0 (omega arith) room
+    fixed_grow n le us (packed_fixed b) vs (length b + 2) (checked_ok (length b % 8 == 0) (us ++ packed_fixed b) vs (fault_at at PackedLength) e).1 i f.0 (omega arith) room
 fixed_keep n le at p us vs r i room e = stays Fixeds (λ xs. length (bytes_field n (fixed_text xs))) us vs (field_cost p) (ok_is us vs e) i
 
 -- ---- bytes and texts
 
+-- an element that comes behind others
 items_grow : (In : List ℕ → Type 0) (n : ℕ) → n ≤ greatest_number → (us vs : List (List ℕ)) (b : List ℕ) → us ++ b ∷ [] ≡ vs → Each In us → In b → 16 * (length b + 2) < 2 ^ 64
     → Grows (Each In) (λ xs. length (items_text n xs)) us (length b + 2) vs
 items_grow In n le us vs b e i j room =
     becomes (Each In) (λ xs. length (items_text n xs)) us (us ++ b ∷ []) vs (length b + 2) e (each_append In us (b ∷ []) i (j, tt))
     (item_grows n le (items_text n us) b (items_text n (us ++ b ∷ [])) (length b + 2) (flat_map-append (long_field n) us (b ∷ [])) (omega arith) room)
 
+-- a repeated row of bytes
 bytes_keep : (n : ℕ) → n ≤ greatest_number → (p : Payload) (us vs : List (List ℕ)) → Each (InRange Bytes) us → length (items_text n us) + 16 * field_cost p < 2 ^ 64 → put_bytes p us ≡ vs
     → Grows (Each (InRange Bytes)) (λ xs. length (items_text n xs)) us (field_cost p) vs
 bytes_keep n le (Long b) us vs i room e = items_grow (InRange Bytes) n le us vs b e i tt (omega arith)
 bytes_keep n le p us vs i room e = stays (Each (InRange Bytes)) (λ xs. length (items_text n xs)) us vs (field_cost p) e i
 
+-- a repeated row of texts
 texts_keep : (n : ℕ) → n ≤ greatest_number → (at : ℕ) (p : Payload) (us vs : List (List ℕ)) → Each (InRange Text) us → length (items_text n us) + 16 * field_cost p < 2 ^ 64 → put_texts at p us ≡ Ok vs
     → Grows (Each (InRange Text)) (λ xs. length (items_text n xs)) us (field_cost p) vs
 texts_keep n le at (Long b) us vs i room e =
     let r = bind_ok (text_of at b) (λ (t : List ℕ). Ok (us ++ t ∷ [])) vs e in
-    let t = text_is (is_utf8 b) b r.0 (fault_at at NotUtf8) r.1 in
+    let t = checked_ok (is_utf8 b) b r.0 (fault_at at NotUtf8) r.1 in
     items_grow (InRange Text) n le us vs b (ap (λ (x : List ℕ). us ++ x ∷ []) t.1 ∙ ok_is (us ++ r.0 ∷ []) vs r.2) i t.0 (omega arith)
 texts_keep n le at p us vs i room e = stays (Each (InRange Text)) (λ xs. length (items_text n xs)) us vs (field_cost p) (ok_is us vs e) i
 
 -- ---- messages
 
+-- a repeated row of messages
 many_message : (k : Shape) → IsMessage k → Keeps k → InRange k (empty k) → spell k (empty k) ≡ [] → (n : ℕ) → n ≤ greatest_number → (at end : ℕ) (p : Payload) (us vs : List (Value k)) → PayloadInRange p
     → Each (InRange k) us → length (items_text n (map (spell k) us)) + 16 * field_cost p < 2 ^ 64 → put_many k (take_field k) at end p us ≡ Ok vs
     → Grows (Each (InRange k)) (λ xs. length (items_text n (map (spell k) xs))) us (field_cost p) vs
@@ -146,10 +152,7 @@ also : {A : Type 0} (P : List A → Type 0) (length_of : List A → ℕ) (us : L
     → (P vs × Unit {0}) × (length_of vs ≤ length_of us + 16 * cost)
 also P length_of us cost vs g = ((g.0, tt), g.1)
 
-refused_is : {A : Type 0} (t : Bool) (u v : A) (f : Fault) → (let r : Result A Fault = cond t (Err f) (Ok u) in r ≡ Ok v) → u ≡ v
-refused_is true u v f e = absurd cc
-refused_is false u v f e = ok_is u v e
-
+-- a repeated row of any shape
 many_keeps : (k : Shape) → Keeps k → InRange k (empty k) → spell k (empty k) ≡ [] → (n : ℕ) → n ≤ greatest_number → (at end : ℕ) (p : Payload) (us vs : List (Value k)) → PayloadInRange p → ManyIn k us
     → length (spell_many k (spell k) n us) + 16 * field_cost p < 2 ^ 64 → put_many k (take_field k) at end p us ≡ Ok vs
     → Grows (ManyIn k) (λ xs. length (spell_many k (spell k) n xs)) us (field_cost p) vs
@@ -159,14 +162,15 @@ many_keeps Fixed keep start nothing n le at end p us vs r i room e = also Fixeds
 many_keeps Bytes keep start nothing n le at end p us vs r i room e = also (Each (InRange Bytes)) (λ xs. length (items_text n xs)) us (field_cost p) vs (bytes_keep n le p us vs i.0 room (ok_is (put_bytes p us) vs e))
 many_keeps Text keep start nothing n le at end p us vs r i room e = also (Each (InRange Text)) (λ xs. length (items_text n xs)) us (field_cost p) vs (texts_keep n le at p us vs i.0 room e)
 many_keeps (Any depth) keep start nothing n le at end p us vs r i room e =
-    stays (ManyIn (Any depth)) (λ xs. 0) us vs (field_cost p) (refused_is (fits_many (Any depth) p) us vs (fault_at at NotBuilt) e) i
+    stays (ManyIn (Any depth)) (λ xs. 0) us vs (field_cost p) (refused_ok (fits_many (Any depth) p) us vs (fault_at at NotBuilt) e) i
 many_keeps (Unbuilt k) keep start nothing n le at end p us vs r i room e =
-    stays (ManyIn (Unbuilt k)) (λ xs. 0) us vs (field_cost p) (refused_is (fits_many k p) us vs (fault_at at NotBuilt) e) i
+    stays (ManyIn (Unbuilt k)) (λ xs. 0) us vs (field_cost p) (refused_ok (fits_many k p) us vs (fault_at at NotBuilt) e) i
 many_keeps k keep start nothing n le at end p us vs r i room e =
     also (Each (InRange k)) (λ xs. length (items_text n (map (spell k) xs))) us (field_cost p) vs (many_message k tt keep start nothing n le at end p us vs r i.0 room e)
 
 -- ---- the empty value
 
+-- a number that is the default is left out
 number_nothing : (w : Format) (n : ℕ) → number_field n (number_to w (number_zero w)) ≡ []
 unfolding number_field
 number_nothing U32 n = refl
@@ -175,14 +179,17 @@ number_nothing I32 n = refl
 number_nothing I64 n = refl
 number_nothing Flag n = refl
 
+-- and an eight-byte value that is 0
 fixed_nothing : (n : ℕ) → fixed_field n 0 ≡ []
 unfolding fixed_field
 fixed_nothing n = refl
 
+-- and empty bytes
 bytes_nothing : (n : ℕ) (b : List ℕ) → b ≡ [] → bytes_field n b ≡ []
 unfolding bytes_field
 bytes_nothing n b e = ap (bytes_field n) e
 
+-- a singular row of the empty value is left out
 one_nothing : (k : Shape) (n : ℕ) → spell k (empty k) ≡ [] → spell_one k (spell k) n (empty k) ≡ []
 one_nothing (Number w) n e = number_nothing w n
 one_nothing (Index T entry) n e = number_nothing I32 n
@@ -193,6 +200,7 @@ one_nothing (Any depth) n e = refl
 one_nothing (Unbuilt k) n e = refl
 one_nothing k n e = bytes_nothing n (spell k (empty k)) e
 
+-- and a repeated row with no elements
 many_nothing : (k : Shape) (n : ℕ) → spell_many k (spell k) n [] ≡ []
 many_nothing (Number w) n = bytes_nothing n [] refl
 many_nothing (Index T entry) n = bytes_nothing n [] refl
@@ -205,6 +213,7 @@ spells_nothing (One n k rest) = ap (λ (x : List ℕ). x ++ spell rest (empty re
 spells_nothing (Many n k rest) = ap (λ (x : List ℕ). x ++ spell rest (empty rest)) (many_nothing k n) ∙ spells_nothing rest
 spells_nothing s = refl
 
+-- the default is a number of its format
 zero_fits : (w : Format) → FitsNumber w (number_zero w)
 zero_fits U32 = (omega arith, refl)
 zero_fits U64 = (omega arith, refl)
@@ -212,6 +221,7 @@ zero_fits I32 = (omega arith, refl)
 zero_fits I64 = (omega arith, refl)
 zero_fits Flag = (omega arith, refl)
 
+-- no elements are in their range
 none_in : (k : Shape) → NoneIn k []
 none_in (Any depth) = refl
 none_in (Unbuilt k) = refl
@@ -229,10 +239,12 @@ empty_in s = tt
 
 -- ---- messages
 
+-- where the row grows and the rows behind it stay, both grow so
 row_first : {A B : Type 0} (In : A → Type 0) (RestIn : B → Type 0) (text : A → List ℕ) (more : B → List ℕ) (u : A) (cost : ℕ) (v : A) (b : B) → Grows In (λ x. length (text x)) u cost v → RestIn b
     → In v × RestIn b × (length (text v ++ more b) ≤ length (text u ++ more b) + 16 * cost)
 row_first In RestIn text more u cost v b g j = let h = g.1 in (g.0, j, omega (arith, length-append (text v) (more b), length-append (text u) (more b)))
 
+-- and where the rows behind it grow
 row_rest : {A B : Type 0} (In : A → Type 0) (RestIn : B → Type 0) (text : A → List ℕ) (more : B → List ℕ) (a : A) (u : B) (cost : ℕ) (v : B) → Grows RestIn (λ x. length (more x)) u cost v → In a
     → In a × RestIn v × (length (text a ++ more v) ≤ length (text a ++ more u) + 16 * cost)
 row_rest In RestIn text more a u cost v g j = let h = g.1 in (j, g.0, omega (arith, length-append (text a) (more v), length-append (text a) (more u)))
@@ -255,19 +267,20 @@ row_keeps {A} {B} In RestIn text more false here there a b cost v i j room h g e
     let r = row_rest In RestIn text more a b cost y.0 (g y.0 (omega (arith, length-append (text a) (more b))) y.1) i in
     subst (λ (w : A × B). In w.0 × RestIn w.1 × (length (text w.0 ++ more w.1) ≤ length (text a ++ more b) + 16 * cost)) p r
 
+-- each shape keeps its values in their range
 pub keeps : (s : Shape) → Keeps s
 keeps (One n k rest) = let a = keeps k in let b = keeps rest in record {
   keeps = λ at end f u v r i room e.
       let g = row_keeps (InRange k) (InRange rest) (spell_one k (spell k) n) (spell rest) (f.number == n) (put_one k (take_field k) at end f.payload u.0) (take_field rest at end f u.1) u.0 u.1 (field_cost f.payload) v i.0 i.1 room
-          (λ t x room e. one_keeps k a n (subst (λ (m : ℕ). m ≤ greatest_number) (eqb-true f.number n t) r.below) at end f.payload u.0 x r.payload_in i.0 room e)
-          (λ y room e. b.keeps at end f u.1 y r i.1 room e) e in
+      (λ t x room e. one_keeps k a n (subst (λ (m : ℕ). m ≤ greatest_number) (eqb-true f.number n t) r.below) at end f.payload u.0 x r.payload_in i.0 room e)
+      (λ y room e. b.keeps at end f u.1 y r i.1 room e) e in
       ((g.0, g.1), g.2);
 }
 keeps (Many n k rest) = let a = keeps k in let b = keeps rest in record {
   keeps = λ at end f u v r i room e.
       let g = row_keeps (ManyIn k) (InRange rest) (spell_many k (spell k) n) (spell rest) (f.number == n) (put_many k (take_field k) at end f.payload u.0) (take_field rest at end f u.1) u.0 u.1 (field_cost f.payload) v (i.0, i.1) i.2 room
-          (λ t x room e. many_keeps k a (empty_in k) (spells_nothing k) n (subst (λ (m : ℕ). m ≤ greatest_number) (eqb-true f.number n t) r.below) at end f.payload u.0 x r.payload_in (i.0, i.1) room e)
-          (λ y room e. b.keeps at end f u.1 y r i.2 room e) e in
+      (λ t x room e. many_keeps k a (empty_in k) (spells_nothing k) n (subst (λ (m : ℕ). m ≤ greatest_number) (eqb-true f.number n t) r.below) at end f.payload u.0 x r.payload_in (i.0, i.1) room e)
+      (λ y room e. b.keeps at end f u.1 y r i.2 room e) e in
       ((g.0.0, g.0.1, g.1), g.2);
 }
 keeps s = record { keeps = λ at end f u v r i room e. stays (InRange s) (size s) u v (field_cost f.payload) (ok_is u v e) i }

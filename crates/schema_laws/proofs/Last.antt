@@ -1,6 +1,6 @@
 -- The last payload that fits: the fold over the payloads against the relation.
-use Rattle.std.proofs.Common.{◌≡◌, ℕ, List, [], ◌∷◌, ◌++◌, refl, sym, ap, ◌∙◌, inl, inr}
-use Rattle.std.specs.Prelude.{Option, Some, None, ◌⊎◌}
+use Rattle.std.proofs.Common.{◌≡◌, List, [], ◌∷◌, ◌++◌, refl, sym, ap, ◌∙◌, inl, inr}
+use Rattle.std.specs.Prelude.{Option, Some, None}
 use Rattle.schema.specs.Field.{Payload}
 use Rattle.schema.specs.Fits.{Each}
 use Rattle.schema.specs.Value.{IsLast}
@@ -17,6 +17,7 @@ last_at : {A : Type 0} (said : Payload → Option A) (before : List Payload) (la
 last_at {A} said [] last after u v e none = ap (λ (o : Option A). last_said said after (or_else o u)) e ∙ last_none said after v none
 last_at said (p ∷ before) last after u v e none = last_at said before last after (or_else (said p) u) v e none
 
+-- the last that fits is what the fold gives
 pub last_is : {A : Type 0} (said : Payload → Option A) (ps : List Payload) (u v : A) → IsLast said ps u v → v ≡ last_said said ps u
 last_is said ps u v (inl h) = h.1 ∙ sym (last_none said ps u h.0)
 last_is said ps u v (inr h) = sym (ap (λ (l : List Payload). last_said said l u) h.3 ∙ last_at said h.0 h.1 h.2 u v h.4 h.5)
@@ -27,6 +28,7 @@ further said p ps None u v q (inl h) = inl ((q, h.0), h.1)
 further {A} said p ps (Some x) u v q (inl h) = inr ([], p, ps, refl, q ∙ ap (λ (y : A). let o : Option A = Some y in o) (sym h.1), h.0)
 further said p ps o u v q (inr h) = inr (p ∷ h.0, h.1, h.2, ap (λ (l : List Payload). p ∷ l) h.3, h.4, h.5)
 
+-- and what the fold gives is the last that fits
 pub is_last : {A : Type 0} (said : Payload → Option A) (ps : List Payload) (u v : A) → v ≡ last_said said ps u → IsLast said ps u v
 is_last said [] u v e = inl (tt, e)
 is_last said (p ∷ ps) u v e = further said p ps (said p) u v refl (is_last said ps (or_else (said p) u) v e)

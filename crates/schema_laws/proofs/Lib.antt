@@ -1,3 +1,4 @@
+pub mod Results
 pub mod Onto
 pub mod Sizes
 pub mod Traces
@@ -23,3 +24,4 @@ pub mod Ranges
 pub mod Growth
 pub mod GrowthOfLists
 pub mod ReadFits
+pub mod VarintLoop

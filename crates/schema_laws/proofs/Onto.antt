@@ -1,9 +1,9 @@
 -- Spellings that are appended row after row, and their lengths.
 use Rattle.std.proofs.Common.{◌≡◌, ℕ, zero, suc, ◌+◌, ◌*◌, ◌/◌, ◌%◌, ◌^◌, ◌<◌, ◌≤◌, true, false, List, [], ◌∷◌, ◌++◌, length, refl, sym, ap, ◌∙◌, arith, inl, inr, pow-suc, append_assoc, length-append}
-use Rattle.std.specs.Prelude.{nat_lt, ◌⊎◌}
+use Rattle.std.specs.Prelude.{nat_lt}
 use Rattle.std.proofs.lemmas.Bool.{cases_lt, lt-ltb, le-ltb}
 use Rattle.std.proofs.lemmas.List.{append-nil}
-use Rattle.schema.specs.Shape.{Shape, Number, Fixed, Bytes, Text, Any, Index, Unbuilt, End, One, Many, Value}
+use Rattle.schema.specs.Shape.{Shape, One, Many, Value}
 use Rattle.schema.specs.Spell.{varint_upto, varint, spell, spell_one, spell_many, spell_onto, len_onto, long_field}
 
 -- ---- varints
@@ -34,6 +34,7 @@ varint_large (suc n) le =
     let t : nat_lt (suc n) 128 ≡ false = le-ltb _ _ le in
     rw t (ap (λ (r : List ℕ). (suc n % 128 + 128) ∷ r) (enough n (suc n / 128) (suc n / 128) (omega arith) (omega arith)))
 
+-- a number of so many sevens of bits has so many bytes at most
 len_below : (k n : ℕ) → n < 128 ^ k * 128 → length (varint n) ≤ k + 1
 len_below zero n lt = omega (arith, ap length (varint_small n (omega arith)))
 len_below (suc k) n lt = elim (cases_lt n 128) [
@@ -60,10 +61,12 @@ push_more old new last n le e f = f ∙ ap (λ (t : List ℕ). t ++ varint (n / 
 
 -- ---- bytes behind their length
 
+-- the length of a field of bytes
 pub long_len : (n : ℕ) (b : List ℕ) → length (long_field n b) ≡ length (varint (n * 8 + 2)) + length (varint (length b)) + length b
 unfolding long_field
 long_len n b = omega (arith, length-append (varint (n * 8 + 2)) (varint (length b) ++ b), length-append (varint (n * 8 + 2) ++ varint (length b)) b, length-append (varint (n * 8 + 2)) (varint (length b)), length-append (varint (length b)) b)
 
+-- it is a byte at least
 pub long_some : (n : ℕ) (b : List ℕ) → 0 < length (long_field n b)
 long_some n b = omega (arith, long_len n b, varint_some (length b))
 

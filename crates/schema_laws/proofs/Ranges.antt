@@ -1,12 +1,12 @@
 -- What is read of bytes lies in its range.
-use Rattle.std.proofs.Common.{◌≡◌, ℕ, zero, suc, ◌+◌, ◌*◌, ◌-◌, ◌/◌, ◌%◌, ◌^◌, ◌<◌, ◌≤◌, Bool, true, false, List, [], ◌∷◌, ◌++◌, length, map, take, drop, refl, sym, ap, subst, ◌∙◌, arith, pow-suc, length-append, length-drop, inl, inr}
-use Rattle.std.specs.Prelude.{ℤ, ◌==◌, not, ◌⊎◌}
+use Rattle.std.proofs.Common.{◌≡◌, ℕ, zero, suc, ◌+◌, ◌*◌, ◌-◌, ◌%◌, ◌^◌, ◌<◌, ◌≤◌, Bool, true, false, List, [], ◌∷◌, ◌++◌, length, map, take, drop, refl, sym, ap, subst, ◌∙◌, arith, pow-suc, length-append, inl, inr}
+use Rattle.std.specs.Prelude.{ℤ, ◌==◌, not}
 use Rattle.std.specs.Int.{w32, w64, cast_signed, cast_unsigned, from_le_bytes}
 use Rattle.std.proofs.Math.Nat.{pow-le-pow_right}
 use Rattle.std.proofs.lemmas.Bool.{cases_eq, cases_lt}
 use Rattle.std.proofs.lemmas.Int.{of_z-to_z, to_z_pos}
 use Rattle.std.proofs.Math.Facts.{to_z-neg}
-use Rattle.std.proofs.lemmas.List.{take-append-drop, length-map}
+use Rattle.std.proofs.lemmas.List.{take-append-drop}
 use Rattle.schema.specs.Field.{Eight, Field, Four, Long, Payload, Varint, greatest_number, wire_type}
 use Rattle.schema.specs.Shape.{Flag, Format, I32, I64, U32, U64, number_from}
 use Rattle.schema.specs.Merge.{fixed_upto}
@@ -19,6 +19,7 @@ use Rattle.schema_laws.proofs.OneField.{number_some}
 
 -- ---- varints
 
+-- what so many bytes, and a last one, can be
 digits_below : (front : List ℕ) (last m : ℕ) → last < 128 → last < m → digits 0 (front ++ last ∷ []) < 128 ^ length front * m
 digits_below [] last m low lt = omega arith
 digits_below (b ∷ front) last m low lt =
@@ -65,9 +66,9 @@ number_fits I32 n lt = let b = signed_back (n % 2 ^ 32) (omega arith) in (b.0, a
 number_fits I64 n lt = let e = of_z-to_z w64 n lt in (subst (λ (m : ℕ). m < 2 ^ 64) (sym e) lt, ap (cast_signed w64) e)
 number_fits Flag n lt = flag_fits (n == 0)
   where
-  flag_fits : (t : Bool) → FitsNumber Flag (not t)
-  flag_fits true = (omega arith, refl)
-  flag_fits false = (omega arith, refl)
+    flag_fits : (t : Bool) → FitsNumber Flag (not t)
+    flag_fits true = (omega arith, refl)
+    flag_fits false = (omega arith, refl)
 
 -- the numbers of a packed payload, of which each has a byte at least
 pub numbers_fit : (w : Format) (b ns : List ℕ) → SpellsNumbers b ns → Each (FitsNumber w) (map (number_from w) ns) × (length (map (number_from w) ns) ≤ length b)
@@ -79,6 +80,7 @@ numbers_fit w b (n ∷ ns) s =
 
 -- ---- eight-byte values
 
+-- eight bytes are a number of 64 bits
 pub fixed_below : (b : List ℕ) → Octets b → from_le_bytes w64 b < 2 ^ 64
 fixed_below b h =
     let h0 = octet b h 0 in let h1 = octet b h 1 in let h2 = octet b h 2 in let h3 = octet b h 3 in
@@ -95,6 +97,7 @@ eights_fit (suc k) b h =
 
 -- ---- fields
 
+-- a payload of bytes, or a number of 64 bits
 abbrev pub PayloadInRange : Payload → Type 0
 PayloadInRange (Varint n) = n < 2 ^ 64
 PayloadInRange (Eight b) = Octets b
@@ -110,12 +113,14 @@ pub record FieldInRange (f : Field) : Type 0 where
 abbrev pub field_cost : Payload → ℕ
 field_cost p = payload_len p + 2
 
+-- a payload that bytes spell is in its range
 payload_in_range : (bytes : List ℕ) (p : Payload) → SpellsPayload bytes p → Octets bytes → PayloadInRange p × (payload_len p + 1 ≤ length bytes)
 payload_in_range bytes (Varint n) s h = (number_below bytes n s, omega (arith, number_some bytes n s))
 payload_in_range bytes (Eight b) s h = (subst Octets s.0 h, omega (arith, ap length s.0, s.1))
 payload_in_range bytes (Long b) s h = (each_right (λ n. n < 256) s.0 b (subst Octets s.1 h), omega (arith, ap length s.1, length-append s.0 b, number_some s.0 (length b) s.2))
 payload_in_range bytes (Four b) s h = (tt, omega (arith, ap length s.0, s.1))
 
+-- and so is a field
 pub field_in_range : (one : List ℕ) (f : Field) → SpellsField one f → Octets one → FieldInRange f × (field_cost f.payload ≤ length one)
 field_in_range one f s h =
     let p = payload_in_range s.payload f.payload s.carries (each_right (λ n. n < 256) s.tag s.payload (subst Octets s.is h)) in

@@ -1,16 +1,16 @@
 -- A value that is read can be written and read again, where the bytes are not too many.
-use Rattle.std.proofs.Common.{◌≡◌, ℕ, ◌+◌, ◌*◌, ◌^◌, ◌<◌, ◌≤◌, true, List, [], ◌∷◌, ◌++◌, length, map, Ok, refl, sym, ap, subst, ◌∙◌, arith, length-append}
+use Rattle.std.proofs.Common.{◌≡◌, ℕ, ◌+◌, ◌*◌, ◌^◌, ◌<◌, List, [], ◌∷◌, length, Ok, refl, sym, ap, subst, ◌∙◌, arith, length-append}
 use Rattle.std.specs.List.{flat_map}
-use Rattle.std.specs.Str.{is_utf8}
 use Rattle.std.proofs.lemmas.List.Folds.{flat_map-map}
 use Rattle.schema.specs.Shape.{Any, Bytes, End, Fixed, I32, Index, IsMessage, Many, Number, One, Shape, Text, Unbuilt, Value, empty}
 use Rattle.schema.specs.Merge.{Part, merge, merge_all}
 use Rattle.schema.specs.Spell.{bytes_field, fixed_text, long_field, numbers_text, spell, spell_many, spell_one}
 use Rattle.schema.specs.Fits.{Each, Fits, FitsTogether, Lawful}
 use Rattle.schema.specs.Value.{joined}
-use Rattle.schema_laws.proofs.RowByRow.{ok_is, bind_ok}
+use Rattle.schema_laws.proofs.Back.{reads_back}
+use Rattle.schema_laws.proofs.Results.{ok_is, bind_ok}
 use Rattle.schema_laws.proofs.Lists.{Octets, each_left, each_right}
-use Rattle.schema_laws.proofs.Growth.{long_field_le, bytes_field_le, NoneIn, InRange, Grows, size, message_keeps}
+use Rattle.schema_laws.proofs.Growth.{long_field_le, bytes_field_le, InRange, size, message_keeps}
 use Rattle.schema_laws.proofs.GrowthOfLists.{ManyIn, spells_nothing, empty_in, keeps}
 
 -- what the law says of a message that is a part
@@ -21,6 +21,7 @@ FitsSmall k = (x : Value k) → InRange k x → size k x < 2 ^ 64 → Fits k x
 abbrev FitsItem : (k : Shape) → Value k → Type 0
 FitsItem k y = Fits k y × (size k y < 2 ^ 64)
 
+-- what follows from the one holds too
 each_as : {A : Type 0} (P Q : A → Type 0) → ((x : A) → P x → Q x) → (xs : List A) → Each P xs → Each Q xs
 each_as P Q h [] i = tt
 each_as P Q h (x ∷ xs) i = (h x i.0, each_as P Q h xs i.1)
@@ -32,9 +33,10 @@ each_short text n P Q h [] i short = tt
 each_short {A} text n P Q h (x ∷ xs) i short =
     let l = long_field_le n (text x) in
     let s : length (long_field n (text x)) + length (flat_map (λ (y : A). long_field n (text y)) xs) < 2 ^ 64 =
-        subst (λ (m : ℕ). m < 2 ^ 64) (length-append (long_field n (text x)) (flat_map (λ (y : A). long_field n (text y)) xs)) short in
+    subst (λ (m : ℕ). m < 2 ^ 64) (length-append (long_field n (text x)) (flat_map (λ (y : A). long_field n (text y)) xs)) short in
     (h x i.0 (omega arith), each_short text n P Q h xs i.1 (omega arith))
 
+-- a singular row
 one_fits : (k : Shape) (n : ℕ) (x : Value k) → InRange k x → length (spell_one k (spell k) n x) < 2 ^ 64 → (IsMessage k → FitsSmall k) → FitsItem k x
 one_fits (Number w) n x i short h = (i, omega arith)
 one_fits (Index T entry) n x i short h = (i, omega arith)
@@ -53,20 +55,23 @@ ManyFits k xs = Each (FitsItem k) xs × FitsTogether k xs
 leaves : (k : Shape) (xs : List (Value k)) → Each (Fits k) xs → ((x : Value k) → size k x ≡ 0) → Each (FitsItem k) xs
 leaves k xs i none = each_as (Fits k) (FitsItem k) (λ x f. (f, let e = none x in omega arith)) xs i
 
+-- a repeated row
 many_fits : (k : Shape) (n : ℕ) (xs : List (Value k)) → ManyIn k xs → length (spell_many k (spell k) n xs) < 2 ^ 64 → (IsMessage k → FitsSmall k) → ManyFits k xs
 many_fits (Number w) n xs i short h = let l = bytes_field_le n (numbers_text w xs) in (leaves (Number w) xs i.0 (λ x. refl), omega arith)
 many_fits (Index T entry) n xs i short h = let l = bytes_field_le n (numbers_text I32 xs) in (leaves (Index T entry) xs i.0 (λ x. refl), omega arith)
 many_fits Fixed n xs i short h = (leaves Fixed xs i.0 (λ x. refl), fixed_short (fixed_text xs) short)
   where
-  fixed_short : (b : List ℕ) → length (bytes_field n b) < 2 ^ 64 → length b < 2 ^ 64
-  fixed_short b s = let l = bytes_field_le n b in omega arith
+    fixed_short : (b : List ℕ) → length (bytes_field n b) < 2 ^ 64 → length b < 2 ^ 64
+    fixed_short b s = let l = bytes_field_le n b in omega arith
 many_fits Bytes n xs i short h = (each_short (λ b. b) n (InRange Bytes) (FitsItem Bytes) (λ x r s. (s, omega arith)) xs i.0 short, tt)
 many_fits Text n xs i short h = (each_short (λ b. b) n (InRange Text) (FitsItem Text) (λ x r s. ((r, s), omega arith)) xs i.0 short, tt)
 many_fits (Any depth) n xs i short h = (leaves (Any depth) xs i.0 (λ x. refl), i.1)
 many_fits (Unbuilt k) n xs i short h = (leaves (Unbuilt k) xs i.0 (λ x. refl), i.1)
-many_fits k n xs i short h =
-    (each_short (spell k) n (InRange k) (FitsItem k) (λ x r s. (h tt x r s, s)) xs i.0
-    (subst (λ (t : List ℕ). length t < 2 ^ 64) (flat_map-map (long_field n) (spell k) xs) short), tt)
+many_fits k n xs i short h = (
+  each_short (spell k) n (InRange k) (FitsItem k) (λ x r s. (h tt x r s, s)) xs i.0
+      (subst (λ (t : List ℕ). length t < 2 ^ 64) (flat_map-map (long_field n) (spell k) xs) short),
+  tt,
+)
 
 -- a value in its range whose spelling is short fits
 pub fits_from : (s : Shape) → IsMessage s → Lawful s → FitsSmall s
@@ -116,3 +121,12 @@ read_short s base bytes v o room e =
     let g = message_keeps s (keeps s) base bytes (empty s) v o (empty_in s) (omega arith) e in
     let short = g.1 in
     omega arith
+
+-- so its spelling is read as the same value
+pub read_again : (s : Shape) → IsMessage s → Lawful s → (base : ℕ) (bytes : List ℕ) (v : Value s) → Octets bytes → 16 * length bytes < 2 ^ 64 → merge s (empty s) base bytes ≡ Ok v
+    → (other : ℕ) → merge s (empty s) other (spell s v) ≡ Ok v
+read_again s m lawful base bytes v o room e other = reads_back s m lawful v (read_fits s m lawful base bytes v o room e) other
+
+-- values that fit are told apart by their spellings
+pub spelled_apart : (s : Shape) → IsMessage s → Lawful s → (v w : Value s) → Fits s v → Fits s w → spell s v ≡ spell s w → v ≡ w
+spelled_apart s m lawful v w f g e = ok_is v w (sym (reads_back s m lawful v f 0) ∙ ap (merge s (empty s) 0) e ∙ reads_back s m lawful w g 0)

@@ -1,5 +1,5 @@
 -- A value is read exactly where the bytes spell fields without a fault, and it is their value row by row.
-use Rattle.std.proofs.Common.{◌≡◌, ℕ, List, [], ◌∷◌, ◌++◌, Result, Ok, Err, refl, sym, ap, ◌∙◌}
+use Rattle.std.proofs.Common.{◌≡◌, ℕ, List, [], ◌∷◌, ◌++◌, Result, Ok, refl, sym, ap, ◌∙◌}
 use Rattle.std.proofs.lemmas.List.{append-nil}
 use Rattle.schema.specs.Field.{Field}
 use Rattle.schema.specs.Fault.{Fault}
@@ -15,6 +15,7 @@ use Rattle.schema_laws.proofs.StepFaults.{whole, all_read}
 use Rattle.schema_laws.proofs.Agrees.{agrees}
 use Rattle.schema_laws.proofs.RowByRow.{value, value_nil, read_then}
 
+-- the fields of a trace that is right
 trace_fields : (ps : List Placed) → fields (trace_of ps) ≡ fields_of ps
 trace_fields [] = refl
 trace_fields (p ∷ ps) = ap (λ (l : List Field). p.field ∷ l) (trace_fields ps)
@@ -27,9 +28,11 @@ fields_spelled base bytes fs s = let r = read_spelled base bytes fs s in ap fiel
 pub value_then : (s : Shape) (u v : Value s) (base : ℕ) (bytes : List ℕ) (fs gs : List Field) → Spells bytes fs → merge s u base bytes ≡ Ok v → value s u (fs ++ gs) ≡ value s v gs
 value_then s u v base bytes fs gs sp e = ap (λ (l : List Field). value s u (l ++ gs)) (sym (fields_spelled base bytes fs sp)) ∙ read_then s u v base bytes gs e
 
+-- what is read is the value of the fields
 pub value_read : (s : Shape) (u v : Value s) (base : ℕ) (bytes : List ℕ) (fs : List Field) → Spells bytes fs → merge s u base bytes ≡ Ok v → v ≡ value s u fs
 value_read s u v base bytes fs sp e = sym (ap (value s u) (sym (append-nil fs)) ∙ value_then s u v base bytes fs [] sp e ∙ value_nil s v)
 
+-- an Ok has fields without a fault, and their value
 pub value_from : (s : Shape) (u v : Value s) (base : ℕ) (bytes : List ℕ) → merge s u base bytes ≡ Ok v
     → (fs : List Field) × Spells bytes fs × Each (Sound (FieldFault s)) fs × (v ≡ value s u fs)
 value_from s u v base bytes e =
@@ -41,6 +44,7 @@ value_from s u v base bytes e =
 pub sound_read : (s : Shape) (u : Value s) (base : ℕ) (bytes : List ℕ) (fs : List Field) → Spells bytes fs → Each (Sound (FieldFault s)) fs → (v : Value s) × (merge s u base bytes ≡ Ok v)
 sound_read s u base bytes fs sp sound = let a = agrees s in all_read (take_field s) (FieldFault s) a.hits a.misses a.steady fs base bytes u sp sound
 
+-- and the value of fields without a fault is the Ok
 pub value_to : (s : Shape) (u v : Value s) (base : ℕ) (bytes : List ℕ) (fs : List Field) → Spells bytes fs → Each (Sound (FieldFault s)) fs → v ≡ value s u fs → merge s u base bytes ≡ Ok v
 value_to s u v base bytes fs sp sound e =
     let r = sound_read s u base bytes fs sp sound in

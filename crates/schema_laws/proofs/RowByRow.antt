@@ -11,8 +11,9 @@ use Rattle.schema.specs.Steps.{Bad, Done, Met, Trace, field_at, met, trace, trac
 use Rattle.schema.specs.Shape.{Any, Bytes, Fixed, Format, I32, Index, IsMessage, Many, Number, NumberValue, One, Shape, Text, Unbuilt, Value, empty, fits_many, number_from}
 use Rattle.schema.specs.Merge.{at_place, merge, one_bytes, one_fixed, one_number, one_text, packed, packed_fixed, put_bytes, put_fixed, put_many, put_numbers, put_one, put_texts, run, take_field, text_of}
 use Rattle.schema.specs.Value.{bytes_in, fixed_in, number_in, of_number, others}
+use Rattle.schema_laws.proofs.Results.{ok_is, bind_ok, checked_ok, refused_ok}
 use Rattle.schema_laws.proofs.Traces.{fields}
-use Rattle.schema_laws.proofs.Rows.{IsShort, put_one_message, put_many_message, put_one_short, put_many_short}
+use Rattle.schema_laws.proofs.Rows.{put_one_message, put_many_message, put_one_short, put_many_short}
 
 -- ---- the value
 
@@ -31,6 +32,7 @@ abbrev pub inside : Payload → List Field
 inside (Long b) = fields (trace 0 b)
 inside payload = []
 
+-- no numbers where they can't be read
 abbrev pub ok_or_none : {A E : Type 0} → Result (List A) E → List A
 ok_or_none (Ok ns) = ns
 ok_or_none (Err e) = []
@@ -41,19 +43,23 @@ numbers_of w (Varint n) = number_from w n ∷ []
 numbers_of w (Long b) = ok_or_none (packed w b)
 numbers_of w payload = []
 
+-- eight-byte values
 abbrev pub fixed_of : Payload → List ℕ
 fixed_of (Eight b) = from_le_bytes w64 b ∷ []
 fixed_of (Long b) = packed_fixed b
 fixed_of payload = []
 
+-- bytes and texts
 abbrev pub texts_of : Payload → List (List ℕ)
 texts_of (Long b) = b ∷ []
 texts_of payload = []
 
+-- messages, of which `value` gives each
 abbrev pub messages_of : {A : Type 0} → (List Field → A) → Payload → List A
 messages_of value (Long b) = value (fields (trace 0 b)) ∷ []
 messages_of value payload = []
 
+-- a singular row over what stood before; `value` is that of a message
 abbrev pub one_value : (s : Shape) → (Value s → List Field → Value s) → List Payload → Value s → Value s
 one_value (Number w) value ps u = last_said (number_in w) ps u
 one_value (Index T entry) value ps u = last_said (number_in I32) ps u
@@ -64,6 +70,7 @@ one_value (Any depth) value ps u = u
 one_value (Unbuilt k) value ps u = u
 one_value s value ps u = value u (flat_map inside ps)
 
+-- the elements that a repeated row gains
 abbrev pub many_value : (s : Shape) → (Value s → List Field → Value s) → List Payload → List (Value s)
 many_value (Number w) value ps = flat_map (numbers_of w) ps
 many_value (Index T entry) value ps = flat_map (numbers_of I32) ps
@@ -87,23 +94,18 @@ met_place : (a b len : ℕ) (r : Result (Field × List ℕ) Reason) (go : ℕ �
 met_place a b len (Ok f) go h = ap (λ (t : List Field). f.0 ∷ t) (h (a + (len - length f.1)) (b + (len - length f.1)) f.1)
 met_place a b len (Err e) go h = refl
 
+-- for so many steps
 place_upto : (k a b : ℕ) (bytes : List ℕ) → fields (trace_upto k a bytes) ≡ fields (trace_upto k b bytes)
 unfolding trace_upto
 place_upto zero a b bytes = refl
 place_upto (suc k) a b [] = refl
 place_upto (suc k) a b (x ∷ bytes) = met_place a b (length (x ∷ bytes)) (field_at (x ∷ bytes)) (trace_upto k) (place_upto k)
 
+-- the fields at another place are the same
 pub fields_place : (a : ℕ) (bytes : List ℕ) → fields (trace a bytes) ≡ fields (trace 0 bytes)
 fields_place a bytes = place_upto (length bytes) a 0 bytes
 
 -- ---- one field after the other
-
-pub ok_is : {A : Type 0} (x y : A) → (let r : Result A Fault = Ok x in let q : Result A Fault = Ok y in r ≡ q) → x ≡ y
-ok_is x y e = cc
-
-pub bind_ok : {A B : Type 0} (r : Result A Fault) (f : A → Result B Fault) (y : B) → (r >>= f) ≡ Ok y → (x : A) × (r ≡ Ok x) × (f x ≡ Ok y)
-bind_ok (Ok x) f y e = (x, refl, e)
-bind_ok (Err d) f y e = absurd cc
 
 -- a field that is taken is no more among the fields to come
 abbrev Step : Shape → Type 0
@@ -113,6 +115,7 @@ Step s = (at end : ℕ) (f : Field) (u v : Value s) (fs : List Field) → take_f
 abbrev pub Law : Shape → Type 0
 Law s = (t : Trace) (u v : Value s) (fs : List Field) → run (take_field s) u t ≡ Ok v → value s u (fields t ++ fs) ≡ value s v fs
 
+-- what holds of one field holds of a trace
 law_of : (s : Shape) → Step s → Law s
 unfolding run
 law_of s step Done u v fs e = ap (λ (x : Value s). value s x fs) (ok_is u v e)
@@ -123,15 +126,18 @@ law_of s step (Met at end f t) u v fs e =
 
 -- ---- no fields
 
+-- a singular row of no payloads stays
 one_nil : (k : Shape) → ((v : Value k) → value k v [] ≡ v) → (v : Value k) → one_value k (value k) [] v ≡ v
 one_nil (One n k rest) h v = h v
 one_nil (Many n k rest) h v = h v
 one_nil k h v = refl
 
+-- a repeated row of no payloads gains nothing
 many_nil : (k : Shape) → many_value k (value k) [] ≡ []
 many_nil (Number w) = refl
 many_nil k = refl
 
+-- no fields change nothing
 pub value_nil : (s : Shape) (v : Value s) → value s v [] ≡ v
 value_nil (One n k rest) v = ap (λ (x : Value k). let r : Value k × Value rest = (x, value rest v.1 []) in r) (one_nil k (value_nil k) v.0) ∙ ap (λ (y : Value rest). let r : Value k × Value rest = (v.0, y) in r) (value_nil rest v.1)
 value_nil (Many n k rest) v = ap (λ (x : List (Value k)). let r : List (Value k) × Value rest = (v.0 ++ x, value rest v.1 []) in r) (many_nil k) ∙ ap (λ (x : List (Value k)). let r : List (Value k) × Value rest = (x, value rest v.1 []) in r) (append-nil v.0) ∙ ap (λ (y : Value rest). let r : List (Value k) × Value rest = (v.0, y) in r) (value_nil rest v.1)
@@ -139,36 +145,34 @@ value_nil s v = refl
 
 -- ---- singular rows
 
+-- a singular message, a payload at a time
 one_message : (k : Shape) → IsMessage k → Law k → (at end : ℕ) (p : Payload) (ps : List Payload) (u x : Value k) → put_one k (take_field k) at end p u ≡ Ok x
     → value k u (flat_map inside (p ∷ ps)) ≡ value k x (flat_map inside ps)
 one_message k m law at end (Long b) ps u x e =
     ap (λ (t : List Field). value k u (t ++ flat_map inside ps)) (sym (fields_place (end - length b) b)) ∙ law (trace (end - length b) b) u x (flat_map inside ps) (sym (put_one_message k (take_field k) at end b u m) ∙ e)
 one_message k m law at end p ps u x e = ap (λ (y : Value k). value k y (flat_map inside ps)) (ok_is u x (sym (put_one_short k (take_field k) at end p u m tt) ∙ e))
 
+-- what a payload says of a number
 number_said : (w : Format) (p : Payload) (u : NumberValue w) → or_else (number_in w p) u ≡ one_number w p u
 number_said w (Varint n) u = refl
 number_said w p u = refl
 
+-- of an eight-byte value
 fixed_said : (p : Payload) (u : ℕ) → or_else (fixed_in p) u ≡ one_fixed p u
 fixed_said (Eight b) u = refl
 fixed_said p u = refl
 
+-- of bytes
 bytes_said : (p : Payload) (u : List ℕ) → or_else (bytes_in p) u ≡ one_bytes p u
 bytes_said (Long b) u = refl
 bytes_said p u = refl
 
-checked_is : {A : Type 0} (t : Bool) (b x : A) (f : Fault) → (let r : Result A Fault = cond t (Ok b) (Err f) in r ≡ Ok x) → b ≡ x
-checked_is true b x f e = ok_is b x e
-checked_is false b x f e = absurd cc
-
-refused_is : {A : Type 0} (t : Bool) (b x : A) (f : Fault) → (let r : Result A Fault = cond t (Err f) (Ok b) in r ≡ Ok x) → b ≡ x
-refused_is true b x f e = absurd cc
-refused_is false b x f e = ok_is b x e
-
+-- and of a text
 text_said : (at : ℕ) (p : Payload) (u x : List ℕ) → one_text at p u ≡ Ok x → or_else (bytes_in p) u ≡ x
-text_said at (Long b) u x e = checked_is (is_utf8 b) b x (fault_at at NotUtf8) e
+text_said at (Long b) u x e = (checked_ok (is_utf8 b) b x (fault_at at NotUtf8) e).1
 text_said at p u x e = ok_is u x e
 
+-- a singular row of any shape, a payload at a time
 one_step : (k : Shape) → Law k → (at end : ℕ) (p : Payload) (ps : List Payload) (u x : Value k) → put_one k (take_field k) at end p u ≡ Ok x
     → one_value k (value k) (p ∷ ps) u ≡ one_value k (value k) ps x
 one_step (Number w) law at end p ps u x e = ap (last_said (number_in w) ps) (number_said w p u ∙ ok_is (one_number w p u) x e)
@@ -182,6 +186,7 @@ one_step k law at end p ps u x e = one_message k tt law at end p ps u x e
 
 -- ---- repeated rows
 
+-- what an occurrence of a repeated message gains
 many_message : (k : Shape) → IsMessage k → Law k → (at end : ℕ) (p : Payload) (u x : List (Value k)) → put_many k (take_field k) at end p u ≡ Ok x
     → u ++ messages_of (value k (empty k)) p ≡ x
 many_message k m law at end (Long b) u x e =
@@ -190,34 +195,40 @@ many_message k m law at end (Long b) u x e =
     ap (λ (y : Value k). u ++ y ∷ []) v ∙ ok_is (u ++ r.0 ∷ []) x r.2
 many_message k m law at end p u x e = append-nil u ∙ ok_is u x (sym (put_many_short k (take_field k) at end p u m tt) ∙ e)
 
+-- what a packed payload gains
 packed_gives : (w : Format) (at : ℕ) (r : Result (List (NumberValue w)) Reason) (u x : List (NumberValue w)) → (at_place at r >>= λ ns. Ok (u ++ ns)) ≡ Ok x → u ++ ok_or_none r ≡ x
 packed_gives w at (Ok ns) u x e = ok_is (u ++ ns) x e
 packed_gives w at (Err r) u x e = absurd cc
 
+-- what an occurrence of repeated numbers gains
 numbers_give : (w : Format) (at : ℕ) (p : Payload) (u x : List (NumberValue w)) → put_numbers w at p u ≡ Ok x → u ++ numbers_of w p ≡ x
 numbers_give w at (Varint n) u x e = ok_is _ x e
 numbers_give w at (Long b) u x e = packed_gives w at (packed w b) u x e
 numbers_give w at p u x e = append-nil u ∙ ok_is u x e
 
+-- of eight-byte values
 fixed_give : (at : ℕ) (p : Payload) (u x : List ℕ) → put_fixed at p u ≡ Ok x → u ++ fixed_of p ≡ x
 fixed_give at (Eight b) u x e = ok_is _ x e
-fixed_give at (Long b) u x e = checked_is (length b % 8 == 0) (u ++ packed_fixed b) x (fault_at at PackedLength) e
+fixed_give at (Long b) u x e = (checked_ok (length b % 8 == 0) (u ++ packed_fixed b) x (fault_at at PackedLength) e).1
 fixed_give at p u x e = append-nil u ∙ ok_is u x e
 
+-- of bytes
 bytes_give : (p : Payload) (u x : List (List ℕ)) → (let r : Result (List (List ℕ)) Fault = Ok (put_bytes p u) in r ≡ Ok x) → u ++ texts_of p ≡ x
 bytes_give (Long b) u x e = ok_is _ x e
 bytes_give p u x e = append-nil u ∙ ok_is u x e
 
+-- and of texts
 texts_give : (at : ℕ) (p : Payload) (u x : List (List ℕ)) → put_texts at p u ≡ Ok x → u ++ texts_of p ≡ x
 texts_give at (Long b) u x e =
     let r = bind_ok (text_of at b) (λ (t : List ℕ). Ok (u ++ t ∷ [])) x e in
-    ap (λ (t : List ℕ). u ++ t ∷ []) (checked_is (is_utf8 b) b r.0 (fault_at at NotUtf8) r.1) ∙ ok_is (u ++ r.0 ∷ []) x r.2
+    ap (λ (t : List ℕ). u ++ t ∷ []) (checked_ok (is_utf8 b) b r.0 (fault_at at NotUtf8) r.1).1 ∙ ok_is (u ++ r.0 ∷ []) x r.2
 texts_give at p u x e = append-nil u ∙ ok_is u x e
 
 -- elements that are taken are no more among those to come
 fold_many : {A : Type 0} (g : Payload → List A) (p : Payload) (ps : List Payload) (u x : List A) → u ++ g p ≡ x → u ++ flat_map g (p ∷ ps) ≡ x ++ flat_map g ps
 fold_many g p ps u x e = sym (append_assoc u (g p) (flat_map g ps)) ∙ ap (λ y. y ++ flat_map g ps) e
 
+-- a repeated row of any shape, a payload at a time
 many_step : (k : Shape) → Law k → (at end : ℕ) (p : Payload) (ps : List Payload) (u x : List (Value k)) → put_many k (take_field k) at end p u ≡ Ok x
     → u ++ many_value k (value k) (p ∷ ps) ≡ x ++ many_value k (value k) ps
 many_step (Number w) law at end p ps u x e = fold_many (numbers_of w) p ps u x (numbers_give w at p u x e)
@@ -225,12 +236,13 @@ many_step (Index T entry) law at end p ps u x e = fold_many (numbers_of I32) p p
 many_step Fixed law at end p ps u x e = fold_many fixed_of p ps u x (fixed_give at p u x e)
 many_step Bytes law at end p ps u x e = fold_many texts_of p ps u x (bytes_give p u x e)
 many_step Text law at end p ps u x e = fold_many texts_of p ps u x (texts_give at p u x e)
-many_step (Any depth) law at end p ps u x e = ap (λ (y : List (Value (Any depth))). y ++ []) (refused_is (fits_many (Any depth) p) u x (fault_at at NotBuilt) e)
-many_step (Unbuilt k) law at end p ps u x e = ap (λ (y : List (Value (Unbuilt k))). y ++ []) (refused_is (fits_many k p) u x (fault_at at NotBuilt) e)
+many_step (Any depth) law at end p ps u x e = ap (λ (y : List (Value (Any depth))). y ++ []) (refused_ok (fits_many (Any depth) p) u x (fault_at at NotBuilt) e)
+many_step (Unbuilt k) law at end p ps u x e = ap (λ (y : List (Value (Unbuilt k))). y ++ []) (refused_ok (fits_many k p) u x (fault_at at NotBuilt) e)
 many_step k law at end p ps u x e = fold_many (messages_of (value k (empty k))) p ps u x (many_message k tt law at end p u x e)
 
 -- ---- messages
 
+-- a singular row and the rows behind it, a field at a time
 one_row : (n : ℕ) (k rest : Shape) → Law k → Step rest → (t : Bool) (at end : ℕ) (f : Field) (u v : Value k × Value rest) (fs : List Field)
     → cond t (put_one k (take_field k) at end f.payload u.0 >>= λ x. Ok (x, u.1)) (take_field rest at end f u.1 >>= λ x. Ok (u.0, x)) ≡ Ok v
     → (let a : Value k × Value rest = (one_value k (value k) (cond t (f.payload ∷ of_number n fs) (of_number n fs)) u.0, value rest u.1 (cond t (others n fs) (f ∷ others n fs))) in
@@ -246,6 +258,7 @@ one_row n k rest law step false at end f u v fs e =
     ap (λ (y : Value rest). let q : Value k × Value rest = (one_value k (value k) (of_number n fs) u.0, y) in q) (step at end f u.1 r.0 (others n fs) r.1)
     ∙ ap (λ (y : Value k × Value rest). let q : Value k × Value rest = (one_value k (value k) (of_number n fs) y.0, value rest y.1 (others n fs)) in q) p
 
+-- a repeated row and the rows behind it, a field at a time
 many_row : (n : ℕ) (k rest : Shape) → Law k → Step rest → (t : Bool) (at end : ℕ) (f : Field) (u v : List (Value k) × Value rest) (fs : List Field)
     → cond t (put_many k (take_field k) at end f.payload u.0 >>= λ x. Ok (x, u.1)) (take_field rest at end f u.1 >>= λ x. Ok (u.0, x)) ≡ Ok v
     → (let a : List (Value k) × Value rest = (u.0 ++ many_value k (value k) (cond t (f.payload ∷ of_number n fs) (of_number n fs)), value rest u.1 (cond t (others n fs) (f ∷ others n fs))) in
@@ -261,6 +274,7 @@ many_row n k rest law step false at end f u v fs e =
     ap (λ (y : Value rest). let q : List (Value k) × Value rest = (u.0 ++ many_value k (value k) (of_number n fs), y) in q) (step at end f u.1 r.0 (others n fs) r.1)
     ∙ ap (λ (y : List (Value k) × Value rest). let q : List (Value k) × Value rest = (y.0 ++ many_value k (value k) (of_number n fs), value rest y.1 (others n fs)) in q) p
 
+-- each shape takes a field at a time
 step_is : (s : Shape) → Step s
 step_is (One n k rest) at end f u v fs e = one_row n k rest (law_of k (step_is k)) (step_is rest) (f.number == n) at end f u v fs e
 step_is (Many n k rest) at end f u v fs e = many_row n k rest (law_of k (step_is k)) (step_is rest) (f.number == n) at end f u v fs e

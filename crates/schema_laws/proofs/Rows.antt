@@ -1,11 +1,11 @@
 -- An occurrence of a row, by the row's shape.
-use Rattle.std.proofs.Common.{◌≡◌, ℕ, zero, suc, ◌+◌, ◌-◌, ◌*◌, ◌/◌, ◌%◌, ◌<◌, ◌≤◌, List, [], ◌∷◌, ◌++◌, length, take, drop, Result, Ok, Err, refl, sym, ap, ◌∙◌, arith, append_assoc}
+use Rattle.std.proofs.Common.{◌≡◌, ℕ, zero, suc, ◌-◌, ◌/◌, ◌<◌, ◌≤◌, List, [], ◌∷◌, ◌++◌, length, take, drop, Result, Ok, Err, refl, sym, ap, ◌∙◌, arith, append_assoc}
 use Rattle.std.specs.Int.{w64, from_le_bytes}
 use Rattle.std.proofs.lemmas.List.{append-nil}
-use Rattle.schema.specs.Field.{Payload, Varint, Eight, Long, Four, Field}
+use Rattle.schema.specs.Field.{Payload, Long, Field}
 use Rattle.schema.specs.Fault.{Reason, Fault, fault_at}
 use Rattle.schema.specs.Steps.{◌>>=◌, varint_at, trace}
-use Rattle.schema.specs.Shape.{Shape, Number, Fixed, Bytes, Text, Any, Index, Unbuilt, End, One, Many, Format, NumberValue, Value, IsMessage, empty, number_from}
+use Rattle.schema.specs.Shape.{Shape, End, One, Many, Format, NumberValue, Value, IsMessage, empty, number_from}
 use Rattle.schema.specs.Merge.{run, put_one, put_many, packed_upto, packed, put_packed, in_packed, packed_reason, at_place, fixed_upto, packed_fixed}
 use Rattle.schema_laws.proofs.Sizes.{Leaves, varint_leaves, number_size}
 
@@ -41,6 +41,7 @@ put_one_short (One n k rest) inside at end p v m h = refl
 put_one_short (Many n k rest) inside at end p v m h = refl
 put_one_short s inside at end p v m h = absurd m
 
+-- and by a repeated one
 pub put_many_short : (s : Shape) (inside : ℕ → ℕ → Field → Value s → Result (Value s) Fault) (at end : ℕ) (p : Payload) (vs : List (Value s)) → IsMessage s → IsShort p
     → put_many s inside at end p vs ≡ Ok vs
 put_many_short s inside at end (Long b) v m h = absurd h
@@ -55,11 +56,13 @@ put_many_short s inside at end p v m h = absurd m
 abbrev pub packed_by : (w : Format) → (List ℕ → Result (List (NumberValue w)) Reason) → Result (ℕ × List ℕ) Reason → Result (List (NumberValue w)) Reason
 packed_by w go r = in_packed r >>= λ n. go n.1 >>= λ ns. Ok (number_from w n.0 ∷ ns)
 
+-- more steps than there are bytes give the same, by the first varint
 packed_same : (w : Format) (m : ℕ) (r : Result (ℕ × List ℕ) Reason) (go other : List ℕ → Result (List (NumberValue w)) Reason) → Leaves number_size (suc m) r
     → ((bytes : List ℕ) → length bytes ≤ m → go bytes ≡ other bytes) → packed_by w go r ≡ packed_by w other r
 packed_same w m (Ok n) go other h same = ap (λ (t : Result (List (NumberValue w)) Reason). t >>= λ ns. Ok (number_from w n.0 ∷ ns)) (same n.1 (omega arith))
 packed_same w m (Err e) go other h same = refl
 
+-- more steps than there are bytes give the same numbers
 enough : (w : Format) (k n : ℕ) (bytes : List ℕ) → length bytes ≤ k → length bytes ≤ n → packed_upto w k bytes ≡ packed_upto w n bytes
 unfolding packed_upto
 enough w zero zero bytes p q = refl
@@ -80,10 +83,12 @@ packed_is w (b ∷ bytes) h =
     packed_same w (length bytes) (varint_at 9 (b ∷ bytes)) (packed_upto w (length bytes)) (packed w) (varint_leaves 9 (b ∷ bytes))
     (λ rest le. enough w (length bytes) (length rest) rest le (omega arith))
 
+-- no bytes are no numbers
 pub packed_nothing : (w : Format) → packed w [] ≡ Ok []
 unfolding packed_upto
 packed_nothing w = refl
 
+-- a number in front, or behind those so far
 regroup : (w : Format) (at : ℕ) (vs : List (NumberValue w)) (v : NumberValue w) (r : Result (List (NumberValue w)) Reason)
     → (at_place at (r >>= λ ns. Ok (v ∷ ns)) >>= λ ns. Ok (vs ++ ns)) ≡ (at_place at r >>= λ ns. Ok ((vs ++ v ∷ []) ++ ns))
 regroup w at vs v (Ok ns) = ap (λ (t : List (NumberValue w)). Ok t) (sym (append_assoc vs (v ∷ []) ns))
@@ -96,12 +101,14 @@ packed_goes_on w at bytes after n vs some e =
     let a : packed w bytes ≡ (packed w after >>= λ ns. Ok (number_from w n ∷ ns)) = packed_is w bytes some ∙ ap (packed_by w (packed w)) e in
     ap (λ (r : Result (List (NumberValue w)) Reason). at_place at r >>= λ ns. Ok (vs ++ ns)) a ∙ regroup w at vs (number_from w n) (packed w after)
 
+-- a bad varint at the front is the fault
 pub packed_fails : (w : Format) (at : ℕ) (bytes : List ℕ) (r : Reason) (vs : List (NumberValue w)) → 0 < length bytes → varint_at 9 bytes ≡ Err r
     → put_packed w at bytes vs ≡ Err (fault_at at (packed_reason r))
 packed_fails w at bytes r vs some e =
     let a : packed w bytes ≡ Err (packed_reason r) = packed_is w bytes some ∙ ap (packed_by w (packed w)) e in
     ap (λ (r : Result (List (NumberValue w)) Reason). at_place at r >>= λ ns. Ok (vs ++ ns)) a
 
+-- at the end nothing more comes
 pub packed_ends : (w : Format) (at : ℕ) (bytes : List ℕ) (vs : List (NumberValue w)) → length bytes ≡ 0 → put_packed w at bytes vs ≡ Ok vs
 unfolding packed_upto
 packed_ends w at [] vs e = ap (λ (t : List (NumberValue w)). Ok t) (append-nil vs)
@@ -114,6 +121,7 @@ pub packed_fixed_is : (bytes : List ℕ) (k : ℕ) → length bytes / 8 ≡ suc 
 unfolding fixed_upto
 packed_fixed_is bytes k e = ap (λ (n : ℕ). fixed_upto n bytes) e
 
+-- fewer than eight bytes are no value
 pub fixed_nothing : (bytes : List ℕ) → length bytes / 8 ≡ 0 → packed_fixed bytes ≡ []
 unfolding fixed_upto
 fixed_nothing bytes e = ap (λ (n : ℕ). fixed_upto n bytes) e

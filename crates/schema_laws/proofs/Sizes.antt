@@ -12,27 +12,34 @@ abbrev pub Leaves : {A E : Type 0} → (A → ℕ) → ℕ → Result A E → Ty
 Leaves size n (Ok x) = size x ≤ n
 Leaves size n (Err e) = Unit {0}
 
+-- what follows a number, and a byte of it
 abbrev pub number_size : ℕ × List ℕ → ℕ
 number_size x = length x.1 + 1
 
+-- bytes, and what follows them
 abbrev pub bytes_size : List ℕ × List ℕ → ℕ
 bytes_size x = length x.0 + length x.1
 
+-- the bytes that a length-delimited payload holds
 abbrev pub payload_len : Payload → ℕ
 payload_len (Long b) = length b
 payload_len payload = 0
 
+-- a payload's bytes, and what follows it
 abbrev pub payload_size : Payload × List ℕ → ℕ
 payload_size x = payload_len x.0 + length x.1
 
+-- a field's bytes, what follows it, and a byte of its tag
 abbrev pub field_size : Field × List ℕ → ℕ
 field_size x = payload_len x.0.payload + length x.1 + 1
 
+-- what comes next leaves no more
 leaves_bind : {A B E : Type 0} (size : A → ℕ) (next : B → ℕ) (m n : ℕ) (r : Result A E) (f : A → Result B E)
     → Leaves size m r → ((x : A) → size x ≤ m → Leaves next n (f x)) → Leaves next n (r >>= f)
 leaves_bind size next m n (Ok x) f h g = g x h
 leaves_bind size next m n (Err e) f h g = tt
 
+-- a varint takes a byte at least
 pub varint_leaves : (k : ℕ) (bytes : List ℕ) → Leaves number_size (length bytes) (varint_at k bytes)
 unfolding varint_at
 varint_leaves zero [] = tt
@@ -41,10 +48,12 @@ varint_leaves (suc k) [] = tt
 varint_leaves (suc k) (b ∷ bytes) = cond_both (nat_lt b 128) (Ok (b, bytes)) (varint_at k bytes >>= λ high. Ok (b % 128 + 128 * high.0, high.1)) (Leaves number_size (suc (length bytes))) (λ _. omega arith)
     (λ _. leaves_bind number_size number_size (length bytes) (suc (length bytes)) (varint_at k bytes) (λ high. Ok (b % 128 + 128 * high.0, high.1)) (varint_leaves k bytes) (λ x h. omega arith))
 
+-- bytes are taken from the front
 pub bytes_leave : (n : ℕ) (bytes : List ℕ) → Leaves bytes_size (length bytes) (bytes_at n bytes)
 bytes_leave n bytes = cond_both (nat_lt (length bytes) n) (Err Truncated) (Ok (take n bytes, drop n bytes)) (Leaves bytes_size (length bytes)) (λ _. tt)
     (λ e. omega (arith, ltb-false _ _ e, length-take n bytes, length-drop n bytes))
 
+-- a payload is taken from the front
 pub payload_leaves : (kind : ℕ) (bytes : List ℕ) → Leaves payload_size (length bytes) (payload_at kind bytes)
 unfolding payload_at
 payload_leaves kind bytes =
@@ -55,6 +64,7 @@ payload_leaves kind bytes =
     (λ _. cond_both (kind == 5) _ _ (Leaves payload_size (length bytes)) (λ _. leaves_bind bytes_size payload_size (length bytes) (length bytes) (bytes_at 4 bytes) (λ n. Ok (Four n.0, n.1)) (bytes_leave 4 bytes) (λ x h. omega arith))
     (λ _. tt))))
 
+-- a field takes a byte at least
 pub field_leaves : (bytes : List ℕ) → Leaves field_size (length bytes) (field_at bytes)
 unfolding field_at
 field_leaves bytes = leaves_bind number_size field_size (length bytes) (length bytes) (varint_at 9 bytes) _ (varint_leaves 9 bytes)
@@ -65,5 +75,6 @@ field_leaves bytes = leaves_bind number_size field_size (length bytes) (length b
 pub size_of_field : (bytes : List ℕ) (f : Field) (after : List ℕ) → field_at bytes ≡ Ok (f, after) → field_size (f, after) ≤ length bytes
 size_of_field bytes f after e = subst (λ (r : Result (Field × List ℕ) Reason). Leaves field_size (length bytes) r) e (field_leaves bytes)
 
+-- a number that is read takes a byte at least
 pub size_of_varint : (bytes : List ℕ) (n : ℕ) (after : List ℕ) → varint_at 9 bytes ≡ Ok (n, after) → length after + 1 ≤ length bytes
 size_of_varint bytes n after e = subst (λ (r : Result (ℕ × List ℕ) Reason). Leaves number_size (length bytes) r) e (varint_leaves 9 bytes)

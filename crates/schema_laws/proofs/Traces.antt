@@ -6,6 +6,7 @@ use Rattle.schema.specs.Steps.{◌>>=◌, field_at, Trace, Done, Bad, Met, met, 
 use Rattle.schema.specs.Merge.{run}
 use Rattle.schema_laws.proofs.Sizes.{Leaves, field_size, field_leaves}
 
+-- a first field, and the same behind it
 met_same : (at len m : ℕ) (r : Result (Field × List ℕ) Reason) (go other : ℕ → List ℕ → Trace) → Leaves field_size (suc m) r
     → ((place : ℕ) (bytes : List ℕ) → length bytes ≤ m → go place bytes ≡ other place bytes) → met at len r go ≡ met at len r other
 met_same at len m (Ok f) go other h same = ap (λ (t : Trace). Met at (at + (len - length f.1)) f.0 t) (same (at + (len - length f.1)) f.1 (omega arith))
@@ -32,6 +33,7 @@ trace_is at (b ∷ bytes) h =
     met_same at (suc (length bytes)) (length bytes) (field_at (b ∷ bytes)) (trace_upto (length bytes)) trace (field_leaves (b ∷ bytes))
     (λ c rest le. enough (length bytes) (length rest) c rest le (omega arith))
 
+-- no bytes have no fields
 pub trace_end : (at : ℕ) (bytes : List ℕ) → length bytes ≡ 0 → trace at bytes ≡ Done
 unfolding trace_upto
 trace_end at [] h = refl
@@ -52,6 +54,7 @@ unfolding run
 run_bad step s at bytes r some e =
     ap (run step s) (trace_is at bytes some ∙ ap (λ (q : Result (Field × List ℕ) Reason). met at (length bytes) q trace) e)
 
+-- at the end the state stays
 pub run_end : {S : Type 0} (step : ℕ → ℕ → Field → S → Result S Fault) (s : S) (at : ℕ) (bytes : List ℕ) → length bytes ≡ 0 → run step s (trace at bytes) ≡ Ok s
 unfolding run
 run_end step s at bytes e = ap (run step s) (trace_end at bytes e)

@@ -17,6 +17,11 @@ pub fn reads_the_value()
     ensures { (s : Shape) → (u : Value s) → (v : Value s) → (base : ℕ) → (bytes : List ℕ) → (merge s u base bytes ≡ Ok v) ↔ IsRead s u bytes v }
 {}
 
+/// Reading gives a value exactly where the bytes have no fault.
+pub fn reads_without_fault()
+    ensures { (s : Shape) → (u : Value s) → (base : ℕ) → (bytes : List ℕ) → ((v : Value s) × (merge s u base bytes ≡ Ok v)) ↔ ((g : Fault) → HasFault s base bytes g → ⊥) }
+{}
+
 /// The parts of a singular message are read as its joined bytes are, except that each spells fields by itself.
 pub fn reads_parts()
     ensures value { (s : Shape) → (u : Value s) → (v : Value s) → (parts : List Part) → (merge_all s u parts ≡ Ok v) ↔ IsReadInParts s u parts v }

@@ -21,9 +21,8 @@ pub fn test_of_lawful()
     ensures { (s : Shape) → is_lawful s ≡ true → Lawful s }
 {}
 
-/// A value that is read of bytes fits, in one part or in several, so its spelling is read as the same value. A spelling is
-/// less than sixteen times as long as the bytes: it may be longer than they are, since a negative number of 32 bits is
-/// read of five bytes and is spelled with ten.
+/// A value that is read of bytes fits, in one part or in several, if sixteen times their number can be counted. Its
+/// spelling may be longer than the bytes, since a negative number of 32 bits is read of five and is spelled with ten.
 pub fn read_values_fit()
     ensures whole { (s : Shape) → IsMessage s → Lawful s → (base : ℕ) → (bytes : List ℕ) → (v : Value s)
         → Each (λ b. b < 256) bytes → 16 * length bytes < 2 ^ 64 → merge s (empty s) base bytes ≡ Ok v → Fits s v }
@@ -31,6 +30,18 @@ pub fn read_values_fit()
         → Each (λ b. b < 256) bytes → 16 * length bytes < 2 ^ 64 → merge s (empty s) base bytes ≡ Ok v → length (spell s v) ≤ 16 * length bytes }
     ensures parts { (s : Shape) → IsMessage s → Lawful s → (parts : List Part) → (v : Value s)
         → Each (λ b. b < 256) (joined parts) → 16 * length (joined parts) < 2 ^ 64 → merge_all s (empty s) parts ≡ Ok v → Fits s v }
+{}
+
+/// What is read of bytes is read again of its spelling, wherever either begins.
+pub fn reads_what_was_read()
+    ensures { (s : Shape) → IsMessage s → Lawful s → (base : ℕ) → (bytes : List ℕ) → (v : Value s)
+        → Each (λ b. b < 256) bytes → 16 * length bytes < 2 ^ 64 → merge s (empty s) base bytes ≡ Ok v
+        → (other : ℕ) → merge s (empty s) other (spell s v) ≡ Ok v }
+{}
+
+/// Two values that fit have one spelling only where they are the same.
+pub fn spellings_tell_values_apart()
+    ensures { (s : Shape) → IsMessage s → Lawful s → (v : Value s) → (w : Value s) → Fits s v → Fits s w → spell s v ≡ spell s w → v ≡ w }
 {}
 
 /// The empty value is spelled by no bytes.
