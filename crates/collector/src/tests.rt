@@ -1,3 +1,5 @@
+ghost use Rattle.std.specs.Prelude.{◌<◌, ◌^◌};
+
 use crate::run_tool;
 use outside::{Files, FixedSeeds, Got, MemFiles, MemSink};
 use std::alloc::{AllocError, Global};
@@ -30,7 +32,13 @@ const EMPTY_DICTIONARY: [u8; 16] = [
     0x12, 0x0E, 0x0A, 0, 0x12, 0, 0x1A, 0, 0x22, 0, 0x2A, 0, 0x32, 0, 0x3A, 0,
 ];
 
-const BAD: [u8; 2] = [1, 2];
+// One resource record, one scope record and one empty profile, and its canonical bytes.
+const ONE_PROFILE: [u8; 6] = [0x0A, 4, 0x12, 2, 0x12, 0];
+
+const ONE_PROFILE_WRITTEN: [u8; 22] = [
+    0x0A, 4, 0x12, 2, 0x12, 0, 0x12, 0x0E, 0x0A, 0, 0x12, 0, 0x1A, 0, 0x22, 0, 0x2A, 0, 0x32, 0,
+    0x3A, 0,
+];
 
 // A row that writes nothing and prints nothing on the standard output.
 fn silent_row<'a>(words: &'a str, input: &'a [u8], status: u8, err: &'a str) -> Row<'a> {
@@ -123,7 +131,64 @@ fn answers(rt: HostRuntime) -> Result<(), Fail> {
         silent_row("canon IN", b"", 1, "otelprof: word 2: MissingWord\n"),
         silent_row("canon IN OUT x", b"", 1, "otelprof: word 3: ExtraWord\n"),
         silent_row("canon x OUT", b"", 2, "x: missing\n"),
-        silent_row("canon IN OUT", &BAD, 2, "IN: wire fault Truncated at 0\n"),
+        silent_row(
+            "canon IN OUT",
+            &[0x0A, 5, 1],
+            2,
+            "IN: wire fault Truncated at 0\n",
+        ),
+        silent_row(
+            "canon IN OUT",
+            &[0x0A, 4, 0x12, 2, 0x12, 5],
+            2,
+            "IN: wire fault Truncated at 4\n",
+        ),
+        silent_row(
+            "canon IN OUT",
+            &[0x12, 3, 0x2A, 1, 0x78],
+            2,
+            "IN: zero entry of string table is not zero\n",
+        ),
+        // A profile's duration isn't read yet.
+        silent_row(
+            "canon IN OUT",
+            &[0x0A, 6, 0x12, 4, 0x12, 2, 0x20, 1],
+            2,
+            "IN: not built at 6\n",
+        ),
+        // Two unused strings of the dictionary vanish.
+        Row {
+            out: "wrote OUT, 16 bytes\n",
+            written: &EMPTY_DICTIONARY,
+            ..silent_row(
+                "canon IN OUT",
+                &[0x12, 7, 0x2A, 0, 0x2A, 3, 0x63, 0x70, 0x75],
+                0,
+                "",
+            )
+        },
+        // An unknown field is skipped, and so is a dictionary of the wrong wire type.
+        Row {
+            out: "wrote OUT, 22 bytes\n",
+            written: &ONE_PROFILE_WRITTEN,
+            ..silent_row(
+                "canon IN OUT",
+                &[0x50, 1, 0x0A, 4, 0x12, 2, 0x12, 0, 0x10, 7],
+                0,
+                "",
+            )
+        },
+        Row {
+            out: "wrote OUT, 22 bytes\n",
+            written: &ONE_PROFILE_WRITTEN,
+            ..silent_row("canon IN OUT", &ONE_PROFILE, 0, "")
+        },
+        // Canonical bytes of canonical bytes are the same.
+        Row {
+            out: "wrote OUT, 22 bytes\n",
+            written: &ONE_PROFILE_WRITTEN,
+            ..silent_row("canon IN OUT", &ONE_PROFILE_WRITTEN, 0, "")
+        },
         Row {
             out: "wrote OUT, 16 bytes\n",
             written: &EMPTY_DICTIONARY,
@@ -155,5 +220,57 @@ fn answers(rt: HostRuntime) -> Result<(), Fail> {
         assert_eq!(rt; left.err.as_slice(), row.err.as_bytes(), "err of {words}");
         assert_eq!(rt; left.written.as_slice(), row.written, "file of {words}");
     }
+    Ok(())
+}
+
+// A message of so many empty profiles of one scope, whose lengths are spelled with four bytes each.
+fn profiles(alloc: Global, count: u32) -> Result<Vec<u8>, AllocError>
+    requires { count < 2 ^ 26 }
+{
+    let mut bytes = Vec::new(alloc);
+    let scope = count * 2;
+    bytes.push(0x0A)?;
+    bytes.extend_from_slice(&four_bytes(scope + 5))?;
+    bytes.push(0x12)?;
+    bytes.extend_from_slice(&four_bytes(scope))?;
+    for _ in 0..count {
+        bytes.extend_from_slice(&[0x12, 0])?;
+    }
+    Ok(bytes)
+}
+
+// A varint spelling of four bytes.
+fn four_bytes(value: u32) -> [u8; 4]
+    requires { value < 2 ^ 28 }
+{
+    [
+        (value % 128 + 128) as u8,
+        (value / 128 % 128 + 128) as u8,
+        (value / 16_384 % 128 + 128) as u8,
+        (value / 2_097_152 % 128) as u8,
+    ]
+}
+
+// The limit is 33,554,432 bytes, both of what is read and of what is written.
+#[test]
+fn limits(rt: HostRuntime) -> Result<(), Fail> {
+    let alloc = rt.alloc();
+    let whole = profiles(alloc, 16_777_211)?;
+    assert_eq!(rt; whole.len(), 33_554_432);
+    let left = run_row(alloc, &silent_row("canon IN OUT", &whole, 0, ""))?;
+    assert_eq!(rt; left.status, 5);
+    assert_eq!(rt;
+        left.err.as_slice(),
+        b"output limit: 33554448 bytes\n".as_slice()
+    );
+    assert_eq!(rt; left.out.len(), 0);
+    let mut long = whole;
+    long.push(0)?;
+    let left = run_row(alloc, &silent_row("canon IN OUT", &long, 0, ""))?;
+    assert_eq!(rt; left.status, 2);
+    assert_eq!(rt;
+        left.err.as_slice(),
+        b"IN: size: more than 33554432 bytes\n".as_slice()
+    );
     Ok(())
 }
