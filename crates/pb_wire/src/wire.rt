@@ -41,7 +41,7 @@ pub trait Wire: Drop {
     fn put_rows(&self, out: &mut Blob) -> Result<(), NoMemory>
         requires { len_onto shape 0 (view self.now) < 2 ^ 63 }
         ensures ok { OnOk result (out.new ≡ spell_onto shape out.old (view self.now)) }
-        ensures grows { Begins out.old out.new };
+        ensures err { OnErr result (Begins out.old out.new) };
 
     /// The length of the canonical spelling. It takes no memory.
     #[tactic(auto, using(crate::proofs::Spelled::onto_len))]
