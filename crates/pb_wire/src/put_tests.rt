@@ -1,6 +1,6 @@
 //! Bytes that are written, against the examples of the Protocol Buffers encoding guide.
 ghost use Rattle.std.specs.Prelude.{map, refl};
-ghost use Rattle.schema.specs.Shape.{Number, Fixed, Bytes, Text, One, Many, End, U32, I32, I64, U64, Flag};
+ghost use Rattle.schema.specs.Shape.{Number, Fixed, Bytes, Text, One, Many, End, I32, I64, U64};
 
 use crate::*;
 use std::alloc::Global;
@@ -51,11 +51,9 @@ struct Tree {
     leaves: Repeated<Leaf>,
     time: u64,
     duration: u64,
-    flag: bool,
     period: i64,
     id: Blob,
     times: Repeated<u64>,
-    title: crate::Text,
     payloads: Repeated<Blob>,
     indices: Repeated<i32>,
     names: Repeated<crate::Text>,
@@ -63,13 +61,13 @@ struct Tree {
 
 impl Wire for Tree {
     ghost shape = {
-        One 1 (One 1 (Number I32) (One 2 Text End)) (Many 2 (One 1 (Number I32) (One 2 Text End)) (One 3 Fixed (One 4 (Number U64) (One 5 (Number Flag) (One 6 (Number I64)
-        (One 7 Bytes (Many 8 Fixed (One 9 Text (Many 10 Bytes (Many 11 (Number I32) (Many 12 Text End)))))))))))
+        One 1 (One 1 (Number I32) (One 2 Text End)) (Many 2 (One 1 (Number I32) (One 2 Text End)) (One 3 Fixed (One 4 (Number U64) (One 6 (Number I64)
+        (One 7 Bytes (Many 8 Fixed (Many 10 Bytes (Many 11 (Number I32) (Many 12 Text End)))))))))
     };
 
     ghost view = {
-        λ m. ((m.leaf.count, (m.leaf.name, tt)), (map (λ l. (l.count, (l.name, tt))) m.leaves, (m.time, (m.duration, (m.flag, (m.period,
-        (m.id, (m.times, (m.title, (m.payloads, (map (λ x. x) m.indices, (m.names, tt))))))))))))
+        λ m. ((m.leaf.count, (m.leaf.name, tt)), (map (λ l. (l.count, (l.name, tt))) m.leaves, (m.time, (m.duration, (m.period,
+        (m.id, (m.times, (m.payloads, (map (λ x. x) m.indices, (m.names, tt))))))))))
     };
 
     ghost message = { tt };
@@ -82,11 +80,9 @@ impl Wire for Tree {
             leaves: Repeated::begin(alloc),
             time: 0,
             duration: 0,
-            flag: false,
             period: 0,
             id: Blob::begin(alloc),
             times: Repeated::begin(alloc),
-            title: crate::Text::begin(alloc),
             payloads: Repeated::begin(alloc),
             indices: Repeated::begin(alloc),
             names: Repeated::begin(alloc),
@@ -102,11 +98,9 @@ impl Wire for Tree {
             + messages_len(2, &self.leaves)
             + fixed_len(3, self.time)
             + number_len(4, self.duration)
-            + number_len(5, self.flag)
             + number_len(6, self.period)
             + bytes_len(7, &self.id)
             + fixed_list_len(8, &self.times)
-            + text_len(9, &self.title)
             + bytes_list_len(10, &self.payloads)
             + numbers_len(11, &self.indices)
             + text_list_len(12, &self.names)
@@ -118,14 +112,45 @@ impl Wire for Tree {
         put_messages(out, 2, &self.leaves)?;
         put_fixed(out, 3, self.time)?;
         put_number(out, 4, self.duration)?;
-        put_number(out, 5, self.flag)?;
         put_number(out, 6, self.period)?;
         put_bytes(out, 7, &self.id)?;
         put_fixed_list(out, 8, &self.times)?;
-        put_text(out, 9, &self.title)?;
         put_bytes_list(out, 10, &self.payloads)?;
         put_numbers(out, 11, &self.indices)?;
         put_text_list(out, 12, &self.names)?;
         Ok(())
     }
+}
+
+#[test]
+fn puts_varints(rt: HostRuntime) -> Result<(), Fail> {
+    let mut out = Blob::begin(rt.alloc());
+    put_varint(&mut out, 150)?;
+    put_varint(&mut out, 1)?;
+    put_varint(&mut out, u64::MAX)?;
+    assert_eq!(rt; out.as_slice(), b"\x96\x01\x01\xff\xff\xff\xff\xff\xff\xff\xff\xff\x01".as_slice());
+    assert_eq!(rt; varint_len(150), 2);
+    assert_eq!(rt; varint_len(u64::MAX), 10);
+    Ok(())
+}
+
+#[test]
+fn puts_fields(rt: HostRuntime) -> Result<(), Fail> {
+    let mut out = Blob::begin(rt.alloc());
+    put_field(&mut out, 1, &Payload::Varint(150))?;
+    put_field(&mut out, 2, &Payload::Bytes(b"testing"))?;
+    assert_eq!(rt; out.as_slice(), b"\x08\x96\x01\x12\x07testing".as_slice());
+    Ok(())
+}
+
+#[test]
+fn puts_rows(rt: HostRuntime) -> Result<(), Fail> {
+    let mut out = Blob::begin(rt.alloc());
+    put_number(&mut out, 1, -1i32)?;
+    put_number(&mut out, 2, 0u64)?;
+    put_fixed(&mut out, 3, 258)?;
+    put_bytes(&mut out, 4, &Blob::copy_of(rt.alloc(), b"ab")?)?;
+    put_text(&mut out, 5, &crate::Text::begin(rt.alloc()))?;
+    assert_eq!(rt; out.as_slice(), b"\x08\xff\xff\xff\xff\xff\xff\xff\xff\xff\x01\x19\x02\x01\0\0\0\0\0\0\x22\x02ab".as_slice());
+    Ok(())
 }
