@@ -1,3 +1,4 @@
 pub mod Spelled
 pub mod Begins
 pub mod Rows
+pub mod Short

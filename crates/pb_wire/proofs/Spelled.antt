@@ -43,6 +43,19 @@ varint_length (suc k) n le lt =
     let p : 128 ^ suc k ≡ 128 ^ k * 128 = pow-suc 128 k in
     omega (arith, one_power k, ap length (varint_large n (omega (arith, one_power k))), varint_length k (n / 128) (omega arith) (omega arith))
 
+len_below : (k n : ℕ) → n < 128 ^ k * 128 → length (varint n) ≤ k + 1
+len_below zero n lt = omega (arith, ap length (varint_small n (omega arith)))
+len_below (suc k) n lt = elim (cases_lt n 128) [
+  | inl small ↦ omega (arith, ap length (varint_small n small))
+  | inr large ↦
+      let p : 128 ^ suc k ≡ 128 ^ k * 128 = pow-suc 128 k in
+      omega (arith, ap length (varint_large n large), len_below k (n / 128) (omega arith))
+]
+
+-- a varint of 64 bits has ten bytes at most
+pub varint_at_most : (n : ℕ) → n < 2 ^ 64 → length (varint n) ≤ 10
+varint_at_most n lt = len_below 9 n (omega arith)
+
 -- a byte that goes on, behind what is put, and the varint of the rest are the varint
 pub varint_onto : (out : List ℕ) (n : ℕ) → 128 ≤ n → (out ++ (n % 128 + 128) ∷ []) ++ varint (n / 128) ≡ out ++ varint n
 varint_onto out n le = append_assoc out ((n % 128 + 128) ∷ []) (varint (n / 128)) ∙ ap (λ (t : List ℕ). out ++ t) (sym (varint_large n le))

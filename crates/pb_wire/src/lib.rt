@@ -9,6 +9,7 @@ mod memory;
 mod number;
 mod put;
 mod put_rows;
+#[cfg(test)]
 mod put_tests;
 mod repeated;
 mod text;

@@ -1,5 +1,5 @@
 //! Bytes that are written, against the examples of the Protocol Buffers encoding guide.
-ghost use Rattle.std.specs.Prelude.{map, refl};
+ghost use Rattle.std.specs.Prelude.{◌≡◌, ◌≤◌, ◌∷◌, [], pos, map, refl, length, IfOk};
 ghost use Rattle.schema.specs.Shape.{Number, Fixed, Bytes, Text, One, Many, End, I32, I64, U64};
 
 use crate::*;
@@ -152,5 +152,82 @@ fn puts_rows(rt: HostRuntime) -> Result<(), Fail> {
     put_bytes(&mut out, 4, &Blob::copy_of(rt.alloc(), b"ab")?)?;
     put_text(&mut out, 5, &crate::Text::begin(rt.alloc()))?;
     assert_eq!(rt; out.as_slice(), b"\x08\xff\xff\xff\xff\xff\xff\xff\xff\xff\x01\x19\x02\x01\0\0\0\0\0\0\x22\x02ab".as_slice());
+    Ok(())
+}
+
+/// The guide's number and text.
+fn make_leaf(alloc: Global) -> Result<Leaf, NoMemory>
+    ensures { IfOk result (λ m. (m.count ≡ pos 150) × (length m.name ≤ 7)) }
+{
+    Ok(Leaf {
+        count: 150,
+        name: crate::Text::copy_of(alloc, "testing")?,
+    })
+}
+
+/// The guide's numbers.
+fn make_numbers(alloc: Global) -> Result<Repeated<i32>, NoMemory>
+    ensures { IfOk result (λ xs. xs ≡ pos 3 ∷ (pos 270 ∷ (pos 86942 ∷ []))) }
+{
+    let mut numbers = Repeated::begin(alloc);
+    numbers.add(3)?;
+    numbers.add(270)?;
+    numbers.add(86_942)?;
+    Ok(numbers)
+}
+
+#[test]
+fn writes_messages(rt: HostRuntime) -> Result<(), Fail> {
+    let leaf = make_leaf(rt.alloc())?;
+    let mut out = Blob::begin(rt.alloc());
+    leaf.write(&mut out)?;
+    assert_eq!(rt; out.as_slice(), b"\x08\x96\x01\x12\x07testing".as_slice());
+    assert_eq!(rt; leaf.written_len(), 12);
+    Ok(())
+}
+
+#[test]
+fn puts_messages(rt: HostRuntime) -> Result<(), Fail> {
+    let leaf = make_leaf(rt.alloc())?;
+    let mut leaves = Repeated::begin(rt.alloc());
+    leaves.add(Leaf::none(rt.alloc()))?;
+    let mut out = Blob::begin(rt.alloc());
+    put_messages(&mut out, 1, &leaves)?;
+    put_message(&mut out, 2, &leaf)?;
+    assert_eq!(rt; out.as_slice(), b"\x0a\0\x12\x0c\x08\x96\x01\x12\x07testing".as_slice());
+    Ok(())
+}
+
+#[test]
+fn packs_numbers(rt: HostRuntime) -> Result<(), Fail> {
+    let numbers = make_numbers(rt.alloc())?;
+    let mut out = Blob::begin(rt.alloc());
+    put_numbers(&mut out, 6, &numbers)?;
+    assert_eq!(rt; out.as_slice(), b"\x32\x06\x03\x8e\x02\x9e\xa7\x05".as_slice());
+    Ok(())
+}
+
+#[test]
+#[tactic(auto, using(crate::proofs::Short::bytes_most, crate::proofs::Rows::fixed_length))]
+fn packs_eights(rt: HostRuntime) -> Result<(), Fail> {
+    let mut times = Repeated::begin(rt.alloc());
+    times.add(258u64)?;
+    let mut out = Blob::begin(rt.alloc());
+    put_fixed_list(&mut out, 1, &times)?;
+    assert_eq!(rt; out.as_slice(), b"\x0a\x08\x02\x01\0\0\0\0\0\0".as_slice());
+    Ok(())
+}
+
+#[test]
+fn puts_lists(rt: HostRuntime) -> Result<(), Fail> {
+    let mut payloads = Repeated::begin(rt.alloc());
+    payloads.add(Blob::begin(rt.alloc()))?;
+    let mut names = Repeated::begin(rt.alloc());
+    names.add(crate::Text::begin(rt.alloc()))?;
+    names.add(crate::Text::copy_of(rt.alloc(), "a")?)?;
+    let mut out = Blob::begin(rt.alloc());
+    put_bytes_list(&mut out, 1, &payloads)?;
+    put_text_list(&mut out, 2, &names)?;
+    assert_eq!(rt; out.as_slice(), b"\x0a\0\x12\0\x12\x01a".as_slice());
     Ok(())
 }
