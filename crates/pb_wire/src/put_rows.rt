@@ -140,7 +140,11 @@ pub fn put_message<T: Wire>(out: &mut Blob, number: u32, message: &T) -> Result<
 
 /// Puts each message behind its own tag and length, also an empty one.
 #[tactic(auto, using(crate::proofs::Begins::growing))]
-pub fn put_messages<T: Wire>(out: &mut Blob, number: u32, items: &Repeated<T>) -> Result<(), NoMemory>
+pub fn put_messages<T: Wire>(
+    out: &mut Blob,
+    number: u32,
+    items: &Repeated<T>,
+) -> Result<(), NoMemory>
     requires below { number < 2 ^ 29 }
     requires room { length (items_text number (map (spell T.shape) (map T.view items.now))) < 2 ^ 63 }
     ensures ok { OnOk result (out.new ≡ out.old ++ items_text number (map (spell T.shape) (map T.view items.now))) }
@@ -170,7 +174,11 @@ fn push_packed<N: Number>(out: &mut Blob, items: &[N]) -> Result<(), NoMemory>
 
 /// Puts numbers, unless there are none, packed behind one tag and length.
 #[tactic(auto, using(crate::proofs::Begins::growing, crate::proofs::Rows::long_onto, crate::proofs::Rows::bytes_within, crate::proofs::Rows::left_out, crate::proofs::Rows::bytes_some))]
-pub fn put_numbers<N: Number>(out: &mut Blob, number: u32, items: &Repeated<N>) -> Result<(), NoMemory>
+pub fn put_numbers<N: Number>(
+    out: &mut Blob,
+    number: u32,
+    items: &Repeated<N>,
+) -> Result<(), NoMemory>
     requires below { number < 2 ^ 29 }
     requires room { length (bytes_field number (numbers_text N.format (map N.value items.now))) < 2 ^ 63 }
     ensures ok { OnOk result (out.new ≡ out.old ++ bytes_field number (numbers_text N.format (map N.value items.now))) }

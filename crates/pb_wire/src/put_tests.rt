@@ -60,15 +60,25 @@ struct Tree {
 }
 
 impl Wire for Tree {
-    ghost shape = {
-        One 1 (One 1 (Number I32) (One 2 Text End)) (Many 2 (One 1 (Number I32) (One 2 Text End)) (One 3 Fixed (One 4 (Number U64) (One 6 (Number I64)
-        (One 7 Bytes (Many 8 Fixed (Many 10 Bytes (Many 11 (Number I32) (Many 12 Text End)))))))))
-    };
+    ghost shape = { One 1 (One 1 (Number I32) (One 2 Text End)) (Many 2 (One 1 (Number I32) (One 2 Text End)) (One 3 Fixed (One 4 (Number U64) (One 6 (Number I64)
+        (One 7 Bytes (Many 8 Fixed (Many 10 Bytes (Many 11 (Number I32) (Many 12 Text End))))))))) };
 
-    ghost view = {
-        λ m. ((m.leaf.count, (m.leaf.name, tt)), (map (λ l. (l.count, (l.name, tt))) m.leaves, (m.time, (m.duration, (m.period,
-        (m.id, (m.times, (m.payloads, (map (λ x. x) m.indices, (m.names, tt))))))))))
-    };
+    ghost view = { λ m. (
+      (m.leaf.count, (m.leaf.name, tt)),
+      (
+        map (λ l. (l.count, (l.name, tt))) m.leaves,
+        (
+          m.time,
+          (
+            m.duration,
+            (
+              m.period,
+              (m.id, (m.times, (m.payloads, (map (λ x. x) m.indices, (m.names, tt))))),
+            ),
+          ),
+        ),
+      ),
+    ) };
 
     ghost message = { tt };
 
@@ -128,7 +138,10 @@ fn puts_varints(rt: HostRuntime) -> Result<(), Fail> {
     put_varint(&mut out, 150)?;
     put_varint(&mut out, 1)?;
     put_varint(&mut out, u64::MAX)?;
-    assert_eq!(rt; out.as_slice(), b"\x96\x01\x01\xff\xff\xff\xff\xff\xff\xff\xff\xff\x01".as_slice());
+    assert_eq!(rt;
+        out.as_slice(),
+        b"\x96\x01\x01\xff\xff\xff\xff\xff\xff\xff\xff\xff\x01".as_slice()
+    );
     assert_eq!(rt; varint_len(150), 2);
     assert_eq!(rt; varint_len(u64::MAX), 10);
     Ok(())
@@ -151,7 +164,10 @@ fn puts_rows(rt: HostRuntime) -> Result<(), Fail> {
     put_fixed(&mut out, 3, 258)?;
     put_bytes(&mut out, 4, &Blob::copy_of(rt.alloc(), b"ab")?)?;
     put_text(&mut out, 5, &crate::Text::begin(rt.alloc()))?;
-    assert_eq!(rt; out.as_slice(), b"\x08\xff\xff\xff\xff\xff\xff\xff\xff\xff\x01\x19\x02\x01\0\0\0\0\0\0\x22\x02ab".as_slice());
+    assert_eq!(rt;
+        out.as_slice(),
+        b"\x08\xff\xff\xff\xff\xff\xff\xff\xff\xff\x01\x19\x02\x01\0\0\0\0\0\0\x22\x02ab".as_slice()
+    );
     Ok(())
 }
 
@@ -194,7 +210,10 @@ fn puts_messages(rt: HostRuntime) -> Result<(), Fail> {
     let mut out = Blob::begin(rt.alloc());
     put_messages(&mut out, 1, &leaves)?;
     put_message(&mut out, 2, &leaf)?;
-    assert_eq!(rt; out.as_slice(), b"\x0a\0\x12\x0c\x08\x96\x01\x12\x07testing".as_slice());
+    assert_eq!(rt;
+        out.as_slice(),
+        b"\x0a\0\x12\x0c\x08\x96\x01\x12\x07testing".as_slice()
+    );
     Ok(())
 }
 
@@ -203,7 +222,10 @@ fn packs_numbers(rt: HostRuntime) -> Result<(), Fail> {
     let numbers = make_numbers(rt.alloc())?;
     let mut out = Blob::begin(rt.alloc());
     put_numbers(&mut out, 6, &numbers)?;
-    assert_eq!(rt; out.as_slice(), b"\x32\x06\x03\x8e\x02\x9e\xa7\x05".as_slice());
+    assert_eq!(rt;
+        out.as_slice(),
+        b"\x32\x06\x03\x8e\x02\x9e\xa7\x05".as_slice()
+    );
     Ok(())
 }
 

@@ -23,8 +23,13 @@ overflow_add-len g c =
     let items = c.as_slice-item-items.result.now in
     let v = view c.item-item.result in
     let len : c.rows_len.result ≡ length (spell shape v) = c.rows_len.ensures ∙ omega (arith, onto_len shape 0 v) in
-    omega (arith, next_within text items c.loop-item.item-index c.item-item.result (omega arith) c.item-item.is, long_len_at c.args.number c.rows_len.result (spell shape v) len,
-        ap length (items_of c.args.number (spell shape) view items), ap (λ t. length (items_text c.args.number (map (spell shape) (map view t)))) c.as_slice-item-items.ensures)
+    omega (
+      arith,
+      next_within text items c.loop-item.item-index c.item-item.result (omega arith) c.item-item.is,
+      long_len_at c.args.number c.rows_len.result (spell shape v) len,
+      ap length (items_of c.args.number (spell shape) view items),
+      ap (λ t. length (items_text c.args.number (map (spell shape) (map view t)))) c.as_slice-item-items.ensures,
+    )
 
 pub loop-item-preserved : goal.loop-item-preserved
 loop-item-preserved g c =
@@ -42,5 +47,10 @@ returns g c =
     let view = g.T.Wire.view in
     let text = λ (x : _). long_field c.args.number (spell shape (view x)) in
     let items = c.as_slice-item-items.result.now in
-    omega (arith, c.loop-item.invariant, ap (λ t. length (flat_map text t)) (take_all c.loop-item.item-index items (omega arith)),
-        ap length (items_of c.args.number (spell shape) view items), ap (λ t. length (items_text c.args.number (map (spell shape) (map view t)))) c.as_slice-item-items.ensures)
+    omega (
+      arith,
+      c.loop-item.invariant,
+      ap (λ t. length (flat_map text t)) (take_all c.loop-item.item-index items (omega arith)),
+      ap length (items_of c.args.number (spell shape) view items),
+      ap (λ t. length (items_text c.args.number (map (spell shape) (map view t)))) c.as_slice-item-items.ensures,
+    )

@@ -1,5 +1,5 @@
 use Rattle.std.proofs.Common.{arith}
-use Rattle.pb_wire.proofs.Short.{numbers_short}
+use Rattle.pb_wire.proofs.Examples.{numbers_short}
 use Rattle.pb_wire.proofs.put_tests.packs_numbers.Goals as goal
 
 pub put_numbers-requires-clause-room : goal.put_numbers-requires-clause-room

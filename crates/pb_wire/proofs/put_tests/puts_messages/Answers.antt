@@ -1,6 +1,6 @@
 use Rattle.std.proofs.Common.{◌≡◌, ◌∷◌, [], ◌++◌, ◌∙◌, ap, arith}
 use Rattle.schema.specs.Shape.{Shape, Value, Number, Text, End, One, I32}
-use Rattle.pb_wire.proofs.Short.{empty_short, one_short, row_short}
+use Rattle.pb_wire.proofs.Examples.{empty_short, one_short, row_short}
 use Rattle.pb_wire.proofs.put_tests.puts_messages.Goals as goal
 
 abbrev shape : Shape

@@ -1,5 +1,5 @@
 use Rattle.std.proofs.Common.{arith}
-use Rattle.pb_wire.proofs.Short.{leaf_short}
+use Rattle.pb_wire.proofs.Examples.{leaf_short}
 use Rattle.pb_wire.proofs.put_tests.writes_messages.Goals as goal
 
 pub write-requires : goal.write-requires
