@@ -1,10 +1,9 @@
 -- The values of the tests have short spellings.
-use Rattle.std.proofs.Common.{◌≡◌, ℕ, zero, map, sym, subst, suc, ◌+◌, ◌*◌, ◌<◌, ◌≤◌, ◌^◌, List, [], ◌∷◌, ◌++◌, length, refl, ap, arith, length-append}
-use Rattle.std.specs.Prelude.{◌==◌, ℤ, pos}
+use Rattle.std.proofs.Common.{◌≡◌, ℕ, map, sym, subst, ◌≤◌, List, [], ◌∷◌, ◌++◌, length, ap, arith, length-append}
+use Rattle.std.specs.Prelude.{ℤ, pos}
 use Rattle.schema.specs.Shape.{Shape, Value, I32}
 use Rattle.schema.specs.Spell.{varint, number_to, numbers_text, items_text, spell, number_field, long_field, bytes_field}
 use Rattle.pb_wire.proofs.Spelled.{varint_at_most}
-use Rattle.pb_wire.proofs.Rows.{long_len, bytes_none, bytes_some}
 use Rattle.pb_wire.proofs.Short.{number_most, long_most, bytes_most}
 
 -- a number and a text, in a field each

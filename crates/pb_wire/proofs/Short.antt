@@ -1,8 +1,6 @@
 -- How long a field is at most.
-use Rattle.std.proofs.Common.{◌≡◌, ℕ, zero, map, sym, subst, suc, ◌+◌, ◌*◌, ◌<◌, ◌≤◌, ◌^◌, List, [], ◌∷◌, ◌++◌, length, refl, ap, arith, length-append}
-use Rattle.std.specs.Prelude.{◌==◌, ℤ, pos}
-use Rattle.schema.specs.Shape.{Shape, Value, I32}
-use Rattle.schema.specs.Spell.{varint, number_to, numbers_text, items_text, spell, number_field, long_field, bytes_field}
+use Rattle.std.proofs.Common.{ℕ, zero, suc, ◌+◌, ◌*◌, ◌<◌, ◌≤◌, ◌^◌, List, [], ◌∷◌, length, refl, ap, arith, length-append}
+use Rattle.schema.specs.Spell.{varint, number_field, long_field, bytes_field}
 use Rattle.pb_wire.proofs.Spelled.{varint_at_most}
 use Rattle.pb_wire.proofs.Rows.{long_len, bytes_none, bytes_some}
 

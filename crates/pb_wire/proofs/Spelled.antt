@@ -1,10 +1,10 @@
 -- What a program needs to know of the canonical spelling: its varints byte by byte, and its rows one after the other.
-use Rattle.std.proofs.Common.{◌≡◌, ℕ, zero, suc, ◌+◌, ◌*◌, ◌-◌, ◌/◌, ◌%◌, ◌^◌, ◌<◌, ◌≤◌, Bool, true, false, List, [], ◌∷◌, ◌++◌, length, refl, sym, ap, ◌∙◌, inl, inr, arith, pow-suc, append_assoc, length-append}
-use Rattle.std.specs.Prelude.{nat_lt, ◌⊎◌}
+use Rattle.std.proofs.Common.{◌≡◌, ℕ, zero, suc, ◌+◌, ◌*◌, ◌/◌, ◌%◌, ◌^◌, ◌<◌, ◌≤◌, true, false, List, [], ◌∷◌, ◌++◌, length, refl, sym, ap, ◌∙◌, inl, inr, arith, pow-suc, append_assoc, length-append}
+use Rattle.std.specs.Prelude.{nat_lt}
 use Rattle.std.proofs.lemmas.Bool.{cases_lt, lt-ltb, le-ltb}
 use Rattle.std.proofs.lemmas.List.{append-nil}
 use Rattle.schema.specs.Shape.{Shape, Number, Fixed, Bytes, Text, Any, Index, Unbuilt, End, One, Many, Value}
-use Rattle.schema.specs.Spell.{varint_upto, varint, spell, spell_one, spell_many, spell_onto, len_onto, long_field}
+use Rattle.schema.specs.Spell.{varint_upto, varint, spell, spell_one, spell_many, spell_onto, len_onto}
 
 -- steps beyond the number itself change nothing
 enough : (k m n : ℕ) → n ≤ k → n ≤ m → varint_upto k n ≡ varint_upto m n
