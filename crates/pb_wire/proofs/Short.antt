@@ -14,6 +14,7 @@ number_most n (suc v) p q = grind (arith, length-append (varint (n * 8)) (varint
 pub long_most : (n : ℕ) (b : List ℕ) → n < 2 ^ 29 → length b < 2 ^ 64 → length (long_field n b) ≤ length b + 20
 long_most n b p q = omega (arith, long_len n b, varint_at_most (n * 8 + 2) (omega arith), varint_at_most (length b) q)
 
+-- and so has a field of bytes
 pub bytes_most : (n : ℕ) (b : List ℕ) → n < 2 ^ 29 → length b < 2 ^ 64 → length (bytes_field n b) ≤ length b + 20
 bytes_most n [] p q = omega (arith, ap length (bytes_none n [] refl))
 bytes_most n (x ∷ b) p q = omega (arith, ap length (bytes_some n (x ∷ b) (omega arith)), long_most n (x ∷ b) p q)

@@ -32,6 +32,7 @@ varint_large (suc n) le =
     let t : nat_lt (suc n) 128 ≡ false = le-ltb _ _ le in
     rw t (ap (λ (r : List ℕ). (suc n % 128 + 128) ∷ r) (enough n (suc n / 128) (suc n / 128) (omega arith) (omega arith)))
 
+-- a power of 128 is not 0
 one_power : (k : ℕ) → 1 ≤ 128 ^ k
 one_power zero = omega arith
 one_power (suc k) = let p : 128 ^ suc k ≡ 128 ^ k * 128 = pow-suc 128 k in omega (arith, one_power k)
@@ -43,6 +44,7 @@ varint_length (suc k) n le lt =
     let p : 128 ^ suc k ≡ 128 ^ k * 128 = pow-suc 128 k in
     omega (arith, one_power k, ap length (varint_large n (omega (arith, one_power k))), varint_length k (n / 128) (omega arith) (omega arith))
 
+-- a number below a power of 128 has that many bytes at most
 len_below : (k n : ℕ) → n < 128 ^ k * 128 → length (varint n) ≤ k + 1
 len_below zero n lt = omega (arith, ap length (varint_small n (omega arith)))
 len_below (suc k) n lt = elim (cases_lt n 128) [
