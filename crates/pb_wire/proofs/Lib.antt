@@ -9,3 +9,5 @@ pub mod Eights
 pub mod Spelled
 pub mod Begins
 pub mod Rows
+pub mod Short
+pub mod Examples

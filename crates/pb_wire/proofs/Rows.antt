@@ -1,6 +1,6 @@
 -- The lengths of fields, and repeated fields element by element.
-use Rattle.std.proofs.Common.{rules, ◌≡◌, ℕ, zero, suc, ◌+◌, ◌*◌, ◌<◌, ◌≤◌, ◌^◌, Bool, true, false, List, [], ◌∷◌, ◌++◌, length, take, get_or, map, refl, sym, ap, ◌∙◌, inl, inr, arith, append_assoc, length-append}
-use Rattle.std.specs.Prelude.{◌==◌, if◌then◌else◌}
+use Rattle.std.proofs.Common.{rules, ◌≡◌, ℕ, suc, ◌+◌, ◌*◌, ◌<◌, ◌≤◌, false, List, [], ◌∷◌, ◌++◌, length, take, get_or, map, refl, sym, ap, ◌∙◌, arith, append_assoc, length-append}
+use Rattle.std.specs.Prelude.{◌==◌}
 use Rattle.std.specs.Int.{w64, to_le_bytes}
 use Rattle.std.specs.List.{flat_map}
 use Rattle.std.proofs.lemmas.List.{append-nil}
@@ -25,16 +25,17 @@ unfolding long_field
 long_onto out n len b e =
     ap (λ (m : ℕ). ((out ++ varint (n * 8 + 2)) ++ varint m) ++ b) e ∙ simp append_assoc
 
--- none are left out
+-- the field of no bytes is left out
 pub bytes_none : (n : ℕ) (b : List ℕ) → length b ≡ 0 → bytes_field n b ≡ []
 unfolding bytes_field
 bytes_none n [] e = refl
 bytes_none n (x ∷ b) e = absurd (omega (arith, e))
 
+-- so nothing is put for it
 pub left_out : (out : List ℕ) (n : ℕ) (b : List ℕ) → length b ≡ 0 → out ≡ out ++ bytes_field n b
 left_out out n b e = sym (append-nil out) ∙ ap (λ (t : List ℕ). out ++ t) (sym (bytes_none n b e))
 
--- some are written
+-- any other bytes are written
 pub bytes_some : (n : ℕ) (b : List ℕ) → 0 < length b → bytes_field n b ≡ long_field n b
 unfolding bytes_field
 bytes_some n [] lt = absurd (omega (arith, lt))
@@ -59,16 +60,18 @@ pub fixed_length : (vs : List ℕ) → length (fixed_text vs) ≡ 8 * length vs
 fixed_length [] = refl
 fixed_length (v ∷ vs) = omega (arith, length-append (to_le_bytes w64 v) (fixed_text vs), fixed_length vs)
 
--- the text of the elements up to this one, and that its length is within that of all
+-- the text of the elements up to this one
 pub next_text : {X : Type 0} (f : X → List ℕ) (xs : List X) (i : ℕ) (x : X) → i < length xs → x ≡ get_or xs i x → flat_map f (take (i + 1) xs) ≡ flat_map f (take i xs) ++ f x
 next_text f xs i x lt e =
     ap (flat_map f) ((take_at_read xs i x lt).1 ∙ ap (λ y. take i xs ++ y ∷ []) (sym e))
     ∙ flat_map-append f (take i xs) (x ∷ []) ∙ ap (λ (t : List ℕ). flat_map f (take i xs) ++ t) (append-nil (f x))
 
+-- its length
 pub next_length : {X : Type 0} (f : X → List ℕ) (xs : List X) (i : ℕ) (x : X) → i < length xs → x ≡ get_or xs i x
     → length (flat_map f (take (i + 1) xs)) ≡ length (flat_map f (take i xs)) + length (f x)
 next_length f xs i x lt e = ap length (next_text f xs i x lt e) ∙ length-append (flat_map f (take i xs)) (f x)
 
+-- and that it is within the length of all
 pub next_within : {X : Type 0} (f : X → List ℕ) (xs : List X) (i : ℕ) (x : X) → i < length xs → x ≡ get_or xs i x
     → length (flat_map f (take i xs)) + length (f x) ≤ length (flat_map f xs)
 next_within f xs i x lt e = omega (arith, length-flat_map-take f xs i x lt, ap (λ y. length (f y)) e)

@@ -1,10 +1,10 @@
 -- What a program needs to know of the canonical spelling: its varints byte by byte, and its rows one after the other.
-use Rattle.std.proofs.Common.{◌≡◌, ℕ, zero, suc, ◌+◌, ◌*◌, ◌-◌, ◌/◌, ◌%◌, ◌^◌, ◌<◌, ◌≤◌, Bool, true, false, List, [], ◌∷◌, ◌++◌, length, refl, sym, ap, ◌∙◌, inl, inr, arith, pow-suc, append_assoc, length-append}
-use Rattle.std.specs.Prelude.{nat_lt, ◌⊎◌}
+use Rattle.std.proofs.Common.{◌≡◌, ℕ, zero, suc, ◌+◌, ◌*◌, ◌/◌, ◌%◌, ◌^◌, ◌<◌, ◌≤◌, true, false, List, [], ◌∷◌, ◌++◌, length, refl, sym, ap, ◌∙◌, inl, inr, arith, pow-suc, append_assoc, length-append}
+use Rattle.std.specs.Prelude.{nat_lt}
 use Rattle.std.proofs.lemmas.Bool.{cases_lt, lt-ltb, le-ltb}
 use Rattle.std.proofs.lemmas.List.{append-nil}
 use Rattle.schema.specs.Shape.{Shape, Number, Fixed, Bytes, Text, Any, Index, Unbuilt, End, One, Many, Value}
-use Rattle.schema.specs.Spell.{varint_upto, varint, spell, spell_one, spell_many, spell_onto, len_onto, long_field}
+use Rattle.schema.specs.Spell.{varint_upto, varint, spell, spell_one, spell_many, spell_onto, len_onto}
 
 -- steps beyond the number itself change nothing
 enough : (k m n : ℕ) → n ≤ k → n ≤ m → varint_upto k n ≡ varint_upto m n
@@ -32,6 +32,7 @@ varint_large (suc n) le =
     let t : nat_lt (suc n) 128 ≡ false = le-ltb _ _ le in
     rw t (ap (λ (r : List ℕ). (suc n % 128 + 128) ∷ r) (enough n (suc n / 128) (suc n / 128) (omega arith) (omega arith)))
 
+-- a power of 128 is not 0
 one_power : (k : ℕ) → 1 ≤ 128 ^ k
 one_power zero = omega arith
 one_power (suc k) = let p : 128 ^ suc k ≡ 128 ^ k * 128 = pow-suc 128 k in omega (arith, one_power k)
@@ -42,6 +43,20 @@ varint_length zero n le lt = omega (arith, ap length (varint_large n (omega arit
 varint_length (suc k) n le lt =
     let p : 128 ^ suc k ≡ 128 ^ k * 128 = pow-suc 128 k in
     omega (arith, one_power k, ap length (varint_large n (omega (arith, one_power k))), varint_length k (n / 128) (omega arith) (omega arith))
+
+-- a number below a power of 128 has that many bytes at most
+len_below : (k n : ℕ) → n < 128 ^ k * 128 → length (varint n) ≤ k + 1
+len_below zero n lt = omega (arith, ap length (varint_small n (omega arith)))
+len_below (suc k) n lt = elim (cases_lt n 128) [
+  | inl small ↦ omega (arith, ap length (varint_small n small))
+  | inr large ↦
+      let p : 128 ^ suc k ≡ 128 ^ k * 128 = pow-suc 128 k in
+      omega (arith, ap length (varint_large n large), len_below k (n / 128) (omega arith))
+]
+
+-- a varint of 64 bits has ten bytes at most
+pub varint_at_most : (n : ℕ) → n < 2 ^ 64 → length (varint n) ≤ 10
+varint_at_most n lt = len_below 9 n (omega arith)
 
 -- a byte that goes on, behind what is put, and the varint of the rest are the varint
 pub varint_onto : (out : List ℕ) (n : ℕ) → 128 ≤ n → (out ++ (n % 128 + 128) ∷ []) ++ varint (n / 128) ≡ out ++ varint n

@@ -41,6 +41,5 @@ Steps base at body (Ok (Some x)) =
 Steps base at body (Err f) = (at < length body) × (f.place ≡ base + at) × (field_at (drop at body) ≡ Err (reason_view f.reason))
 
 -- the bytes so far stay in front
-pub record Begins (old new : List ℕ) : Type 0 where
-  pub added : List ℕ
-  pub is : new ≡ old ++ added
+abbrev pub Begins : List ℕ → List ℕ → Type 0
+Begins old new = new ≡ old ++ drop (length old) new

@@ -11,6 +11,8 @@ mod number;
 mod pieces;
 mod put;
 mod put_rows;
+#[cfg(test)]
+mod put_tests;
 mod repeated;
 mod take;
 mod text;

@@ -7,6 +7,7 @@ ghost use Rattle.pb_wire.specs.View.{payload_view};
 use crate::{Blob, NoMemory, Payload};
 
 /// The length of the shortest varint, 1 to 10 bytes.
+#[inline]
 #[tactic(auto, using(crate::proofs::Spelled::varint_small))]
 pub fn varint_len(value: u64) -> usize
     ensures len { result ≡ length (varint value) }
@@ -36,10 +37,11 @@ pub fn varint_len(value: u64) -> usize
 }
 
 /// Puts the shortest varint at the end; after want of memory a part of it may stand there.
+#[inline]
 #[tactic(auto, using(crate::proofs::Spelled::varint_small, crate::proofs::Spelled::varint_onto, crate::proofs::Begins::growing))]
 pub(crate) fn push_varint(out: &mut Blob, value: u64) -> Result<(), NoMemory>
     ensures ok { OnOk result (out.new ≡ out.old ++ varint value) }
-    ensures grows { Begins out.old out.new }
+    ensures err { OnErr result (Begins out.old out.new) }
 {
     let mut rest = value;
     while rest >= 128 {
@@ -66,11 +68,12 @@ pub fn put_varint(out: &mut Blob, value: u64) -> Result<(), NoMemory>
 }
 
 /// Puts a tag, a length and bytes at the end; after want of memory a part of it may stand there.
+#[inline]
 #[tactic(auto, using(crate::proofs::Begins::growing), unfolding(schema::specs::Spell::long_field))]
 pub(crate) fn push_long(out: &mut Blob, number: u32, bytes: &[u8]) -> Result<(), NoMemory>
     requires { number < 2 ^ 29 }
     ensures ok { OnOk result (out.new ≡ out.old ++ long_field number bytes.now) }
-    ensures grows { Begins out.old out.new }
+    ensures err { OnErr result (Begins out.old out.new) }
 {
     push_varint(out, number as u64 * 8 + 2)?;
     push_varint(out, bytes.len() as u64)?;
@@ -83,7 +86,7 @@ pub(crate) fn push_long(out: &mut Blob, number: u32, bytes: &[u8]) -> Result<(),
 fn push_field(out: &mut Blob, number: u32, payload: &Payload<'_>) -> Result<(), NoMemory>
     requires { number < 2 ^ 29 }
     ensures ok { OnOk result (out.new ≡ out.old ++ field_text number (payload_view payload.now)) }
-    ensures grows { Begins out.old out.new }
+    ensures err { OnErr result (Begins out.old out.new) }
 {
     match payload {
         Payload::Varint(value) => {

@@ -13,7 +13,7 @@ use crate::{Blob, NoMemory, Number, Repeated, Text, Wire};
 pub fn put_number<N: Number>(out: &mut Blob, number: u32, value: N) -> Result<(), NoMemory>
     requires { number < 2 ^ 29 }
     ensures ok { OnOk result (out.new ≡ out.old ++ number_field number (number_to N.format (N.value value))) }
-    ensures grows { Begins out.old out.new }
+    ensures err { OnErr result (Begins out.old out.new) }
 {
     let value = value.to_varint();
     if value == 0 {
@@ -30,7 +30,7 @@ pub fn put_number<N: Number>(out: &mut Blob, number: u32, value: N) -> Result<()
 pub fn put_fixed(out: &mut Blob, number: u32, value: u64) -> Result<(), NoMemory>
     requires { number < 2 ^ 29 }
     ensures ok { OnOk result (out.new ≡ out.old ++ fixed_field number value) }
-    ensures grows { Begins out.old out.new }
+    ensures err { OnErr result (Begins out.old out.new) }
 {
     if value == 0 {
         return Ok(());
@@ -46,7 +46,7 @@ pub fn put_fixed(out: &mut Blob, number: u32, value: u64) -> Result<(), NoMemory
 fn put_slice(out: &mut Blob, number: u32, bytes: &[u8]) -> Result<(), NoMemory>
     requires { number < 2 ^ 29 }
     ensures ok { OnOk result (out.new ≡ out.old ++ bytes_field number bytes.now) }
-    ensures grows { Begins out.old out.new }
+    ensures err { OnErr result (Begins out.old out.new) }
 {
     if bytes.is_empty() {
         return Ok(());
@@ -60,7 +60,7 @@ fn put_slice(out: &mut Blob, number: u32, bytes: &[u8]) -> Result<(), NoMemory>
 pub fn put_bytes(out: &mut Blob, number: u32, bytes: &Blob) -> Result<(), NoMemory>
     requires { number < 2 ^ 29 }
     ensures ok { OnOk result (out.new ≡ out.old ++ bytes_field number bytes.now) }
-    ensures grows { Begins out.old out.new }
+    ensures err { OnErr result (Begins out.old out.new) }
 {
     put_slice(out, number, bytes.as_slice())?;
     Ok(())
@@ -71,7 +71,7 @@ pub fn put_bytes(out: &mut Blob, number: u32, bytes: &Blob) -> Result<(), NoMemo
 pub fn put_text(out: &mut Blob, number: u32, text: &Text) -> Result<(), NoMemory>
     requires { number < 2 ^ 29 }
     ensures ok { OnOk result (out.new ≡ out.old ++ bytes_field number text.now) }
-    ensures grows { Begins out.old out.new }
+    ensures err { OnErr result (Begins out.old out.new) }
 {
     put_slice(out, number, text.as_bytes())?;
     Ok(())
@@ -82,7 +82,7 @@ pub fn put_text(out: &mut Blob, number: u32, text: &Text) -> Result<(), NoMemory
 pub fn put_bytes_list(out: &mut Blob, number: u32, items: &Repeated<Blob>) -> Result<(), NoMemory>
     requires { number < 2 ^ 29 }
     ensures ok { OnOk result (out.new ≡ out.old ++ items_text number items.now) }
-    ensures grows { Begins out.old out.new }
+    ensures err { OnErr result (Begins out.old out.new) }
 {
     for item in items.as_slice() {
         if let Err(stop) = push_long(out, number, item.as_slice()) {
@@ -97,7 +97,7 @@ pub fn put_bytes_list(out: &mut Blob, number: u32, items: &Repeated<Blob>) -> Re
 pub fn put_text_list(out: &mut Blob, number: u32, items: &Repeated<Text>) -> Result<(), NoMemory>
     requires { number < 2 ^ 29 }
     ensures ok { OnOk result (out.new ≡ out.old ++ items_text number items.now) }
-    ensures grows { Begins out.old out.new }
+    ensures err { OnErr result (Begins out.old out.new) }
 {
     for item in items.as_slice() {
         if let Err(stop) = push_long(out, number, item.as_bytes()) {
@@ -114,7 +114,7 @@ fn push_message<T: Wire>(out: &mut Blob, number: u32, len: u64, message: &T) -> 
     requires same { len ≡ len_onto T.shape 0 (T.view message.now) }
     requires room { len < 2 ^ 63 }
     ensures ok { OnOk result (out.new ≡ out.old ++ long_field number (spell T.shape (T.view message.now))) }
-    ensures grows { Begins out.old out.new }
+    ensures err { OnErr result (Begins out.old out.new) }
 {
     push_varint(out, number as u64 * 8 + 2)?;
     push_varint(out, len)?;
@@ -128,7 +128,7 @@ pub fn put_message<T: Wire>(out: &mut Blob, number: u32, message: &T) -> Result<
     requires below { number < 2 ^ 29 }
     requires room { length (bytes_field number (spell T.shape (T.view message.now))) < 2 ^ 63 }
     ensures ok { OnOk result (out.new ≡ out.old ++ bytes_field number (spell T.shape (T.view message.now))) }
-    ensures grows { Begins out.old out.new }
+    ensures err { OnErr result (Begins out.old out.new) }
 {
     let len = message.rows_len();
     if len == 0 {
@@ -148,7 +148,7 @@ pub fn put_messages<T: Wire>(
     requires below { number < 2 ^ 29 }
     requires room { length (items_text number (map (spell T.shape) (map T.view items.now))) < 2 ^ 63 }
     ensures ok { OnOk result (out.new ≡ out.old ++ items_text number (map (spell T.shape) (map T.view items.now))) }
-    ensures grows { Begins out.old out.new }
+    ensures err { OnErr result (Begins out.old out.new) }
 {
     for item in items.as_slice() {
         if let Err(stop) = push_message(out, number, item.rows_len(), item) {
@@ -162,7 +162,7 @@ pub fn put_messages<T: Wire>(
 #[tactic(auto, using(crate::proofs::Begins::growing))]
 fn push_packed<N: Number>(out: &mut Blob, items: &[N]) -> Result<(), NoMemory>
     ensures ok { OnOk result (out.new ≡ out.old ++ numbers_text N.format (map N.value items.now)) }
-    ensures grows { Begins out.old out.new }
+    ensures err { OnErr result (Begins out.old out.new) }
 {
     for item in items {
         if let Err(stop) = push_varint(out, item.to_varint()) {
@@ -182,7 +182,7 @@ pub fn put_numbers<N: Number>(
     requires below { number < 2 ^ 29 }
     requires room { length (bytes_field number (numbers_text N.format (map N.value items.now))) < 2 ^ 63 }
     ensures ok { OnOk result (out.new ≡ out.old ++ bytes_field number (numbers_text N.format (map N.value items.now))) }
-    ensures grows { Begins out.old out.new }
+    ensures err { OnErr result (Begins out.old out.new) }
 {
     let items = items.as_slice();
     let len = packed_len(items);
@@ -199,7 +199,7 @@ pub fn put_numbers<N: Number>(
 #[tactic(auto, using(crate::proofs::Begins::growing))]
 fn push_eights(out: &mut Blob, items: &[u64]) -> Result<(), NoMemory>
     ensures ok { OnOk result (out.new ≡ out.old ++ fixed_text items.now) }
-    ensures grows { Begins out.old out.new }
+    ensures err { OnErr result (Begins out.old out.new) }
 {
     for item in items {
         if let Err(stop) = out.append(&item.to_le_bytes()) {
@@ -215,7 +215,7 @@ pub fn put_fixed_list(out: &mut Blob, number: u32, items: &Repeated<u64>) -> Res
     requires below { number < 2 ^ 29 }
     requires room { length (bytes_field number (fixed_text items.now)) < 2 ^ 63 }
     ensures ok { OnOk result (out.new ≡ out.old ++ bytes_field number (fixed_text items.now)) }
-    ensures grows { Begins out.old out.new }
+    ensures err { OnErr result (Begins out.old out.new) }
 {
     if items.is_empty() {
         return Ok(());

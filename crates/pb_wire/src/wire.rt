@@ -38,7 +38,7 @@ pub trait Wire: Drop {
     fn put_rows(&self, out: &mut Blob) -> Result<(), NoMemory>
         requires { len_onto shape 0 (view self.now) < 2 ^ 63 }
         ensures ok { OnOk result (out.new ≡ spell_onto shape out.old (view self.now)) }
-        ensures grows { Begins out.old out.new };
+        ensures err { OnErr result (Begins out.old out.new) };
 
     /// The shape is that of a message.
     ghost message: { IsMessage shape };

@@ -1,6 +1,5 @@
-use Rattle.std.proofs.Common.{◌≡◌, ◌+◌, ◌≤◌, ℕ, List, length, take, map, sym, ap, ◌∙◌, arith}
-use Rattle.std.specs.List.{flat_map}
-use Rattle.schema.specs.Spell.{varint, number_to, long_field, items_text, numbers_text, spell}
+use Rattle.std.proofs.Common.{length, ap, arith}
+use Rattle.schema.specs.Spell.{long_field, items_text}
 use Rattle.pb_wire.proofs.Rows.{long_len, long_len_at, next_length, next_within}
 use Rattle.pb_wire.proofs.lengths.bytes_list_len.Goals as goal
 

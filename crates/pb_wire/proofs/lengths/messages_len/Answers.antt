@@ -1,8 +1,8 @@
-use Rattle.std.proofs.Common.{◌≡◌, ◌+◌, ◌≤◌, ℕ, List, length, take, map, sym, ap, ◌∙◌, arith}
+use Rattle.std.proofs.Common.{◌≡◌, length, map, ap, ◌∙◌, arith}
 use Rattle.std.specs.List.{flat_map}
-use Rattle.schema.specs.Spell.{varint, number_to, long_field, items_text, numbers_text, spell}
+use Rattle.schema.specs.Spell.{long_field, items_text, spell}
 use Rattle.std.proofs.lemmas.List.{take_all}
-use Rattle.pb_wire.proofs.Rows.{items_of, item_within, long_len, long_len_at, next_length, next_within}
+use Rattle.pb_wire.proofs.Rows.{items_of, item_within, long_len_at, next_length, next_within}
 use Rattle.pb_wire.proofs.Spelled.{onto_len}
 use Rattle.pb_wire.proofs.lengths.messages_len.Goals as goal
 

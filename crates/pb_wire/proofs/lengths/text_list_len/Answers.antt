@@ -1,7 +1,6 @@
-use Rattle.std.proofs.Common.{◌≡◌, ◌+◌, ◌≤◌, ℕ, List, length, take, map, sym, ap, ◌∙◌, arith}
-use Rattle.std.specs.List.{flat_map}
-use Rattle.schema.specs.Spell.{varint, number_to, long_field, items_text, numbers_text, spell}
-use Rattle.pb_wire.proofs.Rows.{long_len, long_len_at, next_length, next_within}
+use Rattle.std.proofs.Common.{length, ap, arith}
+use Rattle.schema.specs.Spell.{long_field, items_text}
+use Rattle.pb_wire.proofs.Rows.{long_len_at, next_length, next_within}
 use Rattle.pb_wire.proofs.lengths.text_list_len.Goals as goal
 
 pub overflow_add-len : goal.overflow_add-len

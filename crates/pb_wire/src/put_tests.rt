@@ -1,0 +1,255 @@
+//! Bytes that are written, against the examples of the Protocol Buffers encoding guide.
+ghost use Rattle.std.specs.Prelude.{◌≡◌, ◌≤◌, ◌∷◌, [], pos, map, refl, length, IfOk};
+ghost use Rattle.schema.specs.Shape.{Number, Fixed, Bytes, Text, One, Many, End, I32, I64, U64};
+
+use crate::*;
+use std::alloc::Global;
+use std::test::Fail;
+
+/// Two rows.
+#[derive(Debug, Drop)]
+struct Leaf {
+    count: i32,
+    name: crate::Text,
+}
+
+impl Wire for Leaf {
+    ghost shape = { One 1 (Number I32) (One 2 Text End) };
+
+    ghost view = { λ m. (m.count, (m.name, tt)) };
+
+    ghost message = { tt };
+
+    ghost lawful = { refl };
+
+    fn none(alloc: Global) -> Leaf {
+        Leaf {
+            count: 0,
+            name: crate::Text::begin(alloc),
+        }
+    }
+
+    fn take(&mut self, _alloc: Global, _field: &Field<'_>) -> Result<(), ReadFault> {
+        Err(ReadFault::NoMemory)
+    }
+
+    fn rows_len(&self) -> u64 {
+        number_len(1, self.count) + text_len(2, &self.name)
+    }
+
+    fn put_rows(&self, out: &mut Blob) -> Result<(), NoMemory> {
+        put_number(out, 1, self.count)?;
+        put_text(out, 2, &self.name)?;
+        Ok(())
+    }
+}
+
+/// A row of each kind.
+#[derive(Debug, Drop)]
+struct Tree {
+    leaf: Leaf,
+    leaves: Repeated<Leaf>,
+    time: u64,
+    duration: u64,
+    period: i64,
+    id: Blob,
+    times: Repeated<u64>,
+    payloads: Repeated<Blob>,
+    indices: Repeated<i32>,
+    names: Repeated<crate::Text>,
+}
+
+impl Wire for Tree {
+    ghost shape = { One 1 (One 1 (Number I32) (One 2 Text End)) (Many 2 (One 1 (Number I32) (One 2 Text End)) (One 3 Fixed (One 4 (Number U64) (One 6 (Number I64)
+        (One 7 Bytes (Many 8 Fixed (Many 10 Bytes (Many 11 (Number I32) (Many 12 Text End))))))))) };
+
+    ghost view = { λ m. (
+      (m.leaf.count, (m.leaf.name, tt)),
+      (
+        map (λ l. (l.count, (l.name, tt))) m.leaves,
+        (
+          m.time,
+          (
+            m.duration,
+            (
+              m.period,
+              (m.id, (m.times, (m.payloads, (map (λ x. x) m.indices, (m.names, tt))))),
+            ),
+          ),
+        ),
+      ),
+    ) };
+
+    ghost message = { tt };
+
+    ghost lawful = { refl };
+
+    fn none(alloc: Global) -> Tree {
+        Tree {
+            leaf: Leaf::none(alloc),
+            leaves: Repeated::begin(alloc),
+            time: 0,
+            duration: 0,
+            period: 0,
+            id: Blob::begin(alloc),
+            times: Repeated::begin(alloc),
+            payloads: Repeated::begin(alloc),
+            indices: Repeated::begin(alloc),
+            names: Repeated::begin(alloc),
+        }
+    }
+
+    fn take(&mut self, _alloc: Global, _field: &Field<'_>) -> Result<(), ReadFault> {
+        Err(ReadFault::NoMemory)
+    }
+
+    fn rows_len(&self) -> u64 {
+        message_len(1, &self.leaf)
+            + messages_len(2, &self.leaves)
+            + fixed_len(3, self.time)
+            + number_len(4, self.duration)
+            + number_len(6, self.period)
+            + bytes_len(7, &self.id)
+            + fixed_list_len(8, &self.times)
+            + bytes_list_len(10, &self.payloads)
+            + numbers_len(11, &self.indices)
+            + text_list_len(12, &self.names)
+    }
+
+    #[tactic(auto, using(crate::proofs::Begins::growing))]
+    fn put_rows(&self, out: &mut Blob) -> Result<(), NoMemory> {
+        put_message(out, 1, &self.leaf)?;
+        put_messages(out, 2, &self.leaves)?;
+        put_fixed(out, 3, self.time)?;
+        put_number(out, 4, self.duration)?;
+        put_number(out, 6, self.period)?;
+        put_bytes(out, 7, &self.id)?;
+        put_fixed_list(out, 8, &self.times)?;
+        put_bytes_list(out, 10, &self.payloads)?;
+        put_numbers(out, 11, &self.indices)?;
+        put_text_list(out, 12, &self.names)?;
+        Ok(())
+    }
+}
+
+#[test]
+fn puts_varints(rt: HostRuntime) -> Result<(), Fail> {
+    let mut out = Blob::begin(rt.alloc());
+    put_varint(&mut out, 150)?;
+    put_varint(&mut out, 1)?;
+    put_varint(&mut out, u64::MAX)?;
+    assert_eq!(rt;
+        out.as_slice(),
+        b"\x96\x01\x01\xff\xff\xff\xff\xff\xff\xff\xff\xff\x01".as_slice()
+    );
+    assert_eq!(rt; varint_len(150), 2);
+    assert_eq!(rt; varint_len(u64::MAX), 10);
+    Ok(())
+}
+
+#[test]
+fn puts_fields(rt: HostRuntime) -> Result<(), Fail> {
+    let mut out = Blob::begin(rt.alloc());
+    put_field(&mut out, 1, &Payload::Varint(150))?;
+    put_field(&mut out, 2, &Payload::Bytes(b"testing"))?;
+    assert_eq!(rt; out.as_slice(), b"\x08\x96\x01\x12\x07testing".as_slice());
+    Ok(())
+}
+
+#[test]
+fn puts_rows(rt: HostRuntime) -> Result<(), Fail> {
+    let mut out = Blob::begin(rt.alloc());
+    put_number(&mut out, 1, -1i32)?;
+    put_number(&mut out, 2, 0u64)?;
+    put_fixed(&mut out, 3, 258)?;
+    put_bytes(&mut out, 4, &Blob::copy_of(rt.alloc(), b"ab")?)?;
+    put_text(&mut out, 5, &crate::Text::begin(rt.alloc()))?;
+    assert_eq!(rt;
+        out.as_slice(),
+        b"\x08\xff\xff\xff\xff\xff\xff\xff\xff\xff\x01\x19\x02\x01\0\0\0\0\0\0\x22\x02ab".as_slice()
+    );
+    Ok(())
+}
+
+/// The guide's number and text.
+fn make_leaf(alloc: Global) -> Result<Leaf, NoMemory>
+    ensures { IfOk result (λ m. (m.count ≡ pos 150) × (length m.name ≤ 7)) }
+{
+    Ok(Leaf {
+        count: 150,
+        name: crate::Text::copy_of(alloc, "testing")?,
+    })
+}
+
+/// The guide's numbers.
+fn make_numbers(alloc: Global) -> Result<Repeated<i32>, NoMemory>
+    ensures { IfOk result (λ xs. xs ≡ pos 3 ∷ (pos 270 ∷ (pos 86942 ∷ []))) }
+{
+    let mut numbers = Repeated::begin(alloc);
+    numbers.add(3)?;
+    numbers.add(270)?;
+    numbers.add(86_942)?;
+    Ok(numbers)
+}
+
+#[test]
+fn writes_messages(rt: HostRuntime) -> Result<(), Fail> {
+    let leaf = make_leaf(rt.alloc())?;
+    let mut out = Blob::begin(rt.alloc());
+    leaf.write(&mut out)?;
+    assert_eq!(rt; out.as_slice(), b"\x08\x96\x01\x12\x07testing".as_slice());
+    assert_eq!(rt; leaf.written_len(), 12);
+    Ok(())
+}
+
+#[test]
+fn puts_messages(rt: HostRuntime) -> Result<(), Fail> {
+    let leaf = make_leaf(rt.alloc())?;
+    let mut leaves = Repeated::begin(rt.alloc());
+    leaves.add(Leaf::none(rt.alloc()))?;
+    let mut out = Blob::begin(rt.alloc());
+    put_messages(&mut out, 1, &leaves)?;
+    put_message(&mut out, 2, &leaf)?;
+    assert_eq!(rt;
+        out.as_slice(),
+        b"\x0a\0\x12\x0c\x08\x96\x01\x12\x07testing".as_slice()
+    );
+    Ok(())
+}
+
+#[test]
+fn packs_numbers(rt: HostRuntime) -> Result<(), Fail> {
+    let numbers = make_numbers(rt.alloc())?;
+    let mut out = Blob::begin(rt.alloc());
+    put_numbers(&mut out, 6, &numbers)?;
+    assert_eq!(rt;
+        out.as_slice(),
+        b"\x32\x06\x03\x8e\x02\x9e\xa7\x05".as_slice()
+    );
+    Ok(())
+}
+
+#[test]
+#[tactic(auto, using(crate::proofs::Short::bytes_most, crate::proofs::Rows::fixed_length))]
+fn packs_eights(rt: HostRuntime) -> Result<(), Fail> {
+    let mut times = Repeated::begin(rt.alloc());
+    times.add(258u64)?;
+    let mut out = Blob::begin(rt.alloc());
+    put_fixed_list(&mut out, 1, &times)?;
+    assert_eq!(rt; out.as_slice(), b"\x0a\x08\x02\x01\0\0\0\0\0\0".as_slice());
+    Ok(())
+}
+
+#[test]
+fn puts_lists(rt: HostRuntime) -> Result<(), Fail> {
+    let mut payloads = Repeated::begin(rt.alloc());
+    payloads.add(Blob::begin(rt.alloc()))?;
+    let mut names = Repeated::begin(rt.alloc());
+    names.add(crate::Text::begin(rt.alloc()))?;
+    names.add(crate::Text::copy_of(rt.alloc(), "a")?)?;
+    let mut out = Blob::begin(rt.alloc());
+    put_bytes_list(&mut out, 1, &payloads)?;
+    put_text_list(&mut out, 2, &names)?;
+    assert_eq!(rt; out.as_slice(), b"\x0a\0\x12\0\x12\x01a".as_slice());
+    Ok(())
+}
