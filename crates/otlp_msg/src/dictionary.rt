@@ -78,6 +78,7 @@ impl Wire for Dictionary {
             + messages_len(7, &self.stack_table)
     }
 
+    #[tactic(auto, using(pb_wire::proofs::Begins::growing))]
     fn put_rows(&self, out: &mut Blob) -> Result<(), NoMemory> {
         put_messages(out, 1, &self.mapping_table)?;
         put_messages(out, 2, &self.location_table)?;
