@@ -3,3 +3,4 @@ pub mod Texts
 pub mod Message
 pub mod Checked
 pub mod Refusals
+pub mod Counts

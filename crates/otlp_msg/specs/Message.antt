@@ -3,8 +3,8 @@ use Rattle.std.specs.Prelude.{◌≡◌, ℕ, List, [], ◌∷◌, length, sum_b
 use Rattle.schema.specs.Fault as faults
 use Rattle.schema.specs.Fault.{Fault}
 use Rattle.schema.specs.Merge.{merge}
-use Rattle.schema.specs.Messages.{envelope, resource_profiles, scope_profiles, dictionary}
-use Rattle.schema.specs.Shape.{Value, empty}
+use Rattle.schema.specs.Messages.{envelope, resource_profiles, scope_profiles, profile, dictionary}
+use Rattle.schema.specs.Shape.{Value, empty, unbuilt}
 use Rattle.pb_wire.specs.declared.fault.WireFault.{WireFault}
 use Rattle.pb_wire.specs.declared.fault.Reason.{Reason}
 use Rattle.pb_wire.specs.declared.fault.Reason.TheVariants as reasons
@@ -30,13 +30,21 @@ dictionary_of m = m.1.0
 abbrev pub strings_of : Value dictionary → List (List ℕ)
 strings_of d = d.1.1.1.1.0
 
--- the profiles of all scopes
+-- how many profiles, and how many samples, there are in some profiles, scopes and resources
+abbrev pub samples_in_profiles : List (Value (unbuilt profile)) → ℕ
+samples_in_profiles profiles = sum_by (λ p. length p.1.0) profiles
+
 abbrev pub profiles_in_scopes : List (Value scope_profiles) → ℕ
 profiles_in_scopes scopes = sum_by (λ s. length s.1.0) scopes
 
--- the profiles of all resources
+abbrev pub samples_in_scopes : List (Value scope_profiles) → ℕ
+samples_in_scopes scopes = sum_by (λ s. samples_in_profiles s.1.0) scopes
+
 abbrev pub profiles_of : Message → ℕ
 profiles_of m = sum_by (λ r. profiles_in_scopes r.1.0) (records_of m)
+
+abbrev pub samples_of : Message → ℕ
+samples_of m = sum_by (λ r. samples_in_scopes r.1.0) (records_of m)
 
 -- The first entry of a table that isn't empty is the zero value. Of the entries that are read only strings can be another.
 abbrev pub begins_with_zero : List (List ℕ) → Bool

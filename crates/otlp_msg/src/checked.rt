@@ -4,6 +4,7 @@ ghost use Rattle.otlp_msg.specs.Message.{message_of};
 ghost use Rattle.otlp_msg.specs.Views.{message_view};
 
 use crate::Message;
+use crate::counts::profiles_in_resources;
 
 /// A message that was accepted, beside the bytes that it was read from.
 #[derive(Debug, Drop)]
@@ -20,6 +21,7 @@ impl<'a> Checked<'a> {
     ghost use Rattle.schema.specs.Messages.{envelope};
     ghost use Rattle.schema.specs.Spell.{spell};
     ghost use Rattle.otlp_msg.specs.Checked.{body_of, value_of};
+    ghost use Rattle.otlp_msg.specs.Message.{profiles_of, samples_of};
 
     /// The bytes that the message was read from. It takes no memory.
     pub fn body(&self) -> &[u8]
@@ -35,5 +37,19 @@ impl<'a> Checked<'a> {
         ensures fits { Fits envelope (value_of self.now) }
     {
         &self.message
+    }
+
+    /// The number of profiles of all scopes. It takes no memory.
+    pub fn profile_count(&self) -> u64
+        ensures { result ≡ profiles_of (value_of self.now) }
+    {
+        profiles_in_resources(self.message().records.as_slice())
+    }
+
+    /// The number of samples of all profiles. It takes no memory. No sample is read yet.
+    pub fn sample_count(&self) -> u64
+        ensures { result ≡ samples_of (value_of self.now) }
+    {
+        0
     }
 }

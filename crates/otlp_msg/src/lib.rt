@@ -3,6 +3,7 @@
 
 mod attribute;
 mod checked;
+mod counts;
 mod dictionary;
 mod function;
 mod link;

@@ -1,0 +1,87 @@
+-- How much there is in a message, as its records and as its value.
+use Rattle.std.proofs.Common.{◌≡◌, ℕ, ◌+◌, ◌<◌, ◌≤◌, ◌^◌, List, [], ◌∷◌, ◌++◌, length, map, sum_by, refl, sym, ap, ◌∙◌, arith, length-append}
+use Rattle.std.proofs.lemmas.List.{length-map}
+use Rattle.std.proofs.lemmas.List.Sums.{sum_by-cons}
+use Rattle.schema.specs.Messages.{resource_profiles, scope_profiles, profile, dictionary, envelope}
+use Rattle.schema.specs.Shape.{Value, unbuilt, empty}
+use Rattle.schema.specs.Spell.{spell, long_field, bytes_field, items_text, varint}
+use Rattle.schema_laws.proofs.Onto.{long_len, varint_some}
+use Rattle.otlp_msg.specs.declared.profile.Profile.{Profile}
+use Rattle.otlp_msg.specs.declared.scope_profiles.ScopeProfiles.{ScopeProfiles}
+use Rattle.otlp_msg.specs.declared.resource_profiles.ResourceProfiles.{ResourceProfiles}
+use Rattle.otlp_msg.specs.Counts.{scopes_count, resources_count}
+use Rattle.otlp_msg.specs.Message.{Message, records_of, profiles_in_scopes, profiles_of, samples_in_scopes, samples_of, samples_in_profiles}
+use Rattle.otlp_msg.specs.Views.{profile_view, scope_profiles_view, resource_profiles_view}
+
+-- two sums are equal where their terms are
+sums_agree : {A B : Type 0} (f : A → ℕ) (g : B → ℕ) (view : B → A) → ((x : B) → f (view x) ≡ g x) → (xs : List B) → sum_by f (map view xs) ≡ sum_by g xs
+sums_agree f g view h [] = refl
+sums_agree f g view h (x ∷ xs) =
+    let here = h x in
+    let more = sums_agree f g view h xs in
+    let a = sum_by-cons f (view x) (map view xs) in
+    let b = sum_by-cons g x xs in
+    omega arith
+
+-- a sum is 0 where its terms are
+sum_is_none : {A : Type 0} (f : A → ℕ) → ((x : A) → f x ≡ 0) → (xs : List A) → sum_by f xs ≡ 0
+sum_is_none f h [] = refl
+sum_is_none f h (x ∷ xs) =
+    let here = h x in
+    let more = sum_is_none f h xs in
+    let a = sum_by-cons f x xs in
+    omega arith
+
+-- the counts of records are those of their values
+pub scopes_counted : (scopes : List ScopeProfiles) → profiles_in_scopes (map scope_profiles_view scopes) ≡ scopes_count scopes
+scopes_counted scopes = sums_agree (λ (s : Value scope_profiles). length s.1.0) (λ (s : ScopeProfiles). length s.profiles) scope_profiles_view (λ s. length-map s.profiles profile_view) scopes
+
+pub resources_counted : (records : List ResourceProfiles) → sum_by (λ r. profiles_in_scopes r.1.0) (map resource_profiles_view records) ≡ resources_count records
+resources_counted records =
+    sums_agree (λ (r : Value resource_profiles). profiles_in_scopes r.1.0) (λ (r : ResourceProfiles). scopes_count r.scope_profiles) resource_profiles_view (λ r. scopes_counted r.scope_profiles) records
+
+-- each element is spelled with more bytes than its own spelling has
+elements_within : {A : Type 0} (n : ℕ) (inner : A → List ℕ) (count : A → ℕ) → ((x : A) → count x ≤ length (inner x)) → (xs : List A) → sum_by count xs ≤ length (items_text n (map inner xs))
+elements_within n inner count h [] = omega arith
+elements_within n inner count h (x ∷ xs) =
+    let here = h x in
+    let more = elements_within n inner count h xs in
+    let s = sum_by-cons count x xs in
+    let t : length (items_text n (map inner (x ∷ xs))) ≡ length (long_field n (inner x)) + length (items_text n (map inner xs)) = length-append (long_field n (inner x)) (items_text n (map inner xs)) in
+    omega (arith, long_len n (inner x))
+
+elements_spelled : {A : Type 0} (n : ℕ) (inner : A → List ℕ) (xs : List A) → length xs ≤ length (items_text n (map inner xs))
+elements_spelled n inner [] = omega arith
+elements_spelled n inner (x ∷ xs) =
+    let more = elements_spelled n inner xs in
+    let t : length (items_text n (map inner (x ∷ xs))) ≡ length (long_field n (inner x)) + length (items_text n (map inner xs)) = length-append (long_field n (inner x)) (items_text n (map inner xs)) in
+    omega (arith, long_len n (inner x), varint_some (length (inner x)))
+
+-- so there are no more profiles than bytes
+profiles_within : (s : Value scope_profiles) → length s.1.0 ≤ length (spell scope_profiles s)
+profiles_within s = omega (arith, elements_spelled 2 (spell (unbuilt profile)) s.1.0, length-append (items_text 2 (map (spell (unbuilt profile)) s.1.0)) [])
+
+scopes_within : (r : Value resource_profiles) → profiles_in_scopes r.1.0 ≤ length (spell resource_profiles r)
+scopes_within r =
+    let all = elements_within 2 (spell scope_profiles) (λ s. length s.1.0) profiles_within r.1.0 in
+    omega (arith, length-append (items_text 2 (map (spell scope_profiles) r.1.0)) [])
+
+pub profiles_few : (m : Message) → profiles_of m ≤ length (spell envelope m)
+profiles_few m =
+    let all = elements_within 1 (spell resource_profiles) (λ r. profiles_in_scopes r.1.0) scopes_within (records_of m) in
+    omega (arith, length-append (items_text 1 (map (spell resource_profiles) (records_of m))) (bytes_field 2 (spell dictionary m.1.0) ++ []))
+
+-- no profile has a sample
+none_in_profiles : (ps : List Profile) → samples_in_profiles (map profile_view ps) ≡ 0
+none_in_profiles ps =
+    sums_agree (λ (p : Value (unbuilt profile)). length p.1.0) (λ (p : Profile). 0) profile_view (λ p. refl) ps ∙ sum_is_none (λ (p : Profile). 0) (λ p. refl) ps
+
+none_in_scopes : (scopes : List ScopeProfiles) → samples_in_scopes (map scope_profiles_view scopes) ≡ 0
+none_in_scopes scopes =
+    sums_agree (λ (s : Value scope_profiles). samples_in_profiles s.1.0) (λ (s : ScopeProfiles). 0) scope_profiles_view (λ s. none_in_profiles s.profiles) scopes
+    ∙ sum_is_none (λ (s : ScopeProfiles). 0) (λ s. refl) scopes
+
+pub none_sampled : (records : List ResourceProfiles) → sum_by (λ r. samples_in_scopes r.1.0) (map resource_profiles_view records) ≡ 0
+none_sampled records =
+    sums_agree (λ (r : Value resource_profiles). samples_in_scopes r.1.0) (λ (r : ResourceProfiles). 0) resource_profiles_view (λ r. none_in_scopes r.scope_profiles) records
+    ∙ sum_is_none (λ (r : ResourceProfiles). 0) (λ r. refl) records

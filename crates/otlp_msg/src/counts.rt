@@ -1,0 +1,29 @@
+//! How much there is in a message.
+ghost use Rattle.std.specs.Prelude.{◌≡◌, ◌<◌, ◌^◌, length, sum_by};
+ghost use Rattle.otlp_msg.specs.Counts.{scopes_count, resources_count};
+
+use crate::{ResourceProfiles, ScopeProfiles};
+
+/// The number of profiles of some resources.
+pub fn profiles_in_resources(records: &[ResourceProfiles]) -> u64
+    requires { resources_count records.now < 2 ^ 62 }
+    ensures { result ≡ resources_count records.now }
+{
+    let mut count = 0;
+    for record in records {
+        count += profiles_in_scopes(record.scope_profiles.as_slice());
+    }
+    count
+}
+
+// The number of profiles of some scopes.
+fn profiles_in_scopes(scopes: &[ScopeProfiles]) -> u64
+    requires { scopes_count scopes.now < 2 ^ 62 }
+    ensures { result ≡ scopes_count scopes.now }
+{
+    let mut count = 0;
+    for scope in scopes {
+        count += scope.profiles.len() as u64;
+    }
+    count
+}
