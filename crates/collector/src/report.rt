@@ -19,9 +19,6 @@ pub fn tell<E: Sink>(alloc: Global, stop: &Stop, err: &mut E) -> u8
     ensures line { result ≢ 7 → ¬ (Rose (E.faults err.old) (E.faults err.new)) →
         E.taken err.new ≡ appended (E.taken err.old) (line_of stop.now) }
 {
-    if let Stop::NoMemory = stop {
-        return tell_no_memory(err);
-    }
     let Ok(line) = stop.line(alloc) else {
         return tell_no_memory(err);
     };

@@ -1,6 +1,6 @@
 ghost use Rattle.std.specs.Prelude.{◌<◌, ◌^◌};
 
-use crate::run_tool;
+use crate::{Stop, ToolRefusal, run_tool, tell};
 use outside::{Files, FixedSeeds, Got, MemFiles, MemSink};
 use std::alloc::{AllocError, Global};
 use std::test::Fail;
@@ -272,5 +272,27 @@ fn limits(rt: HostRuntime) -> Result<(), Fail> {
         left.err.as_slice(),
         b"IN: size: more than 33554432 bytes\n".as_slice()
     );
+    Ok(())
+}
+
+// What `tell` writes and answers at a stop that the rows above don't reach.
+fn told(alloc: Global, stop: Stop) -> Result<(u8, String), Fail> {
+    let mut err = failing_sink(alloc, false)?;
+    let status = tell(alloc, &stop, &mut err);
+    Ok((status, String::from_utf8(err.bytes().to_vec(alloc)?)?))
+}
+
+#[test]
+fn other_stops(rt: HostRuntime) -> Result<(), Fail> {
+    let alloc = rt.alloc();
+    let (status, line) = told(
+        alloc,
+        Stop::Refused(ToolRefusal::Limit { size: 40_000_056 }),
+    )?;
+    assert_eq!(rt; status, 5);
+    assert_eq!(rt; line.as_str(), "output limit: 40000056 bytes\n");
+    let (status, line) = told(alloc, Stop::NoMemory)?;
+    assert_eq!(rt; status, 7);
+    assert_eq!(rt; line.as_str(), "no memory\n");
     Ok(())
 }
