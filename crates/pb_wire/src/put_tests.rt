@@ -104,7 +104,7 @@ fn packs_numbers(rt: HostRuntime) -> Result<(), Fail> {
 }
 
 #[test]
-#[tactic(auto, using(crate::proofs::Short::bytes_most, crate::proofs::Rows::fixed_length))]
+#[tactic(auto, using(schema_laws::proofs::Growth::bytes_field_len, schema_laws::proofs::Fixed::fixed_len))]
 fn packs_eights(rt: HostRuntime) -> Result<(), Fail> {
     let mut times = Repeated::begin(rt.alloc());
     times.add(258u64)?;
