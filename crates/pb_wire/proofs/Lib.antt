@@ -1,13 +1,7 @@
-pub mod Varint
-pub mod Sizes
-pub mod Trace
 pub mod Merge
-pub mod Rest
 pub mod Parts
 pub mod Occurrences
 pub mod Eights
-pub mod Spelled
 pub mod Begins
 pub mod Rows
-pub mod Short
 pub mod Examples

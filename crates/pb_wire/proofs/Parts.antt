@@ -1,8 +1,7 @@
 -- The parts of a message, one after the other.
-use Rattle.std.proofs.Common.{◌≡◌, ℕ, ◌+◌, ◌<◌, ◌≤◌, List, [], ◌∷◌, length, drop, map, get_or, Result, Ok, Err, refl, ap, ◌∙◌, arith}
+use Rattle.std.proofs.Common.{◌≡◌, ℕ, ◌+◌, ◌<◌, ◌≤◌, List, length, drop, map, get_or, Ok, ap}
 use Rattle.std.proofs.lemmas.List.{drop_more, drop_all}
-use Rattle.schema.specs.Fault.{Fault}
-use Rattle.schema.specs.Merge.{Part, merge, merge_all}
+use Rattle.schema.specs.Merge.{merge, merge_all}
 use Rattle.schema.specs.Shape.{Shape, Value}
 use Rattle.schema.specs.Steps.{◌>>=◌}
 use Rattle.pb_wire.specs.declared.pieces.Piece.{Piece}

@@ -1,29 +1,17 @@
 -- The lengths of fields, and repeated fields element by element.
-use Rattle.std.proofs.Common.{rules, ◌≡◌, ℕ, suc, ◌+◌, ◌*◌, ◌<◌, ◌≤◌, false, List, [], ◌∷◌, ◌++◌, length, take, get_or, map, refl, sym, ap, ◌∙◌, arith, append_assoc, length-append}
+use Rattle.std.proofs.Common.{rules, ◌≡◌, ℕ, suc, ◌+◌, ◌*◌, ◌<◌, ◌≤◌, false, List, [], ◌∷◌, ◌++◌, length, take, get_or, map, refl, sym, ap, ◌∙◌, arith, length-append}
 use Rattle.std.specs.Prelude.{◌==◌}
-use Rattle.std.specs.Int.{w64, to_le_bytes}
 use Rattle.std.specs.List.{flat_map}
 use Rattle.std.proofs.lemmas.List.{append-nil}
 use Rattle.std.proofs.lemmas.List.Folds.{flat_map-map, length-flat_map-take}
 use Rattle.std.proofs.lemmas.Grind.{take_at_read, flat_map-append}
 use Rattle.schema.specs.Shape.{Shape, Value, Format, NumberValue}
-use Rattle.schema.specs.Spell.{varint, spell, len_onto, number_to, long_field, bytes_field, numbers_text, items_text, fixed_text}
-use Rattle.pb_wire.proofs.Spelled.{onto_len}
+use Rattle.schema.specs.Spell.{varint, spell, len_onto, number_to, long_field, bytes_field, numbers_text, items_text}
+use Rattle.schema_laws.proofs.Onto.{long_len, onto_len}
 
--- bytes behind their length
-pub long_len : (n : ℕ) (b : List ℕ) → length (long_field n b) ≡ length (varint (n * 8 + 2)) + length (varint (length b)) + length b
-unfolding long_field
-long_len n b = omega (arith, length-append (varint (n * 8 + 2) ++ varint (length b)) b, length-append (varint (n * 8 + 2)) (varint (length b)))
-
--- the same, where the length has another name
+-- the length of a field of bytes, where theirs has another name
 pub long_len_at : (n len : ℕ) (b : List ℕ) → len ≡ length b → length (long_field n b) ≡ length (varint (n * 8 + 2)) + length (varint len) + len
 long_len_at n len b e = long_len n b ∙ ap (λ (m : ℕ). length (varint (n * 8 + 2)) + length (varint m) + m) (sym e)
-
--- a tag, a length and bytes, behind what is put, are the field
-pub long_onto : (out : List ℕ) (n len : ℕ) (b : List ℕ) → len ≡ length b → ((out ++ varint (n * 8 + 2)) ++ varint len) ++ b ≡ out ++ long_field n b
-unfolding long_field
-long_onto out n len b e =
-    ap (λ (m : ℕ). ((out ++ varint (n * 8 + 2)) ++ varint m) ++ b) e ∙ simp append_assoc
 
 -- the field of no bytes is left out
 pub bytes_none : (n : ℕ) (b : List ℕ) → length b ≡ 0 → bytes_field n b ≡ []
@@ -41,11 +29,6 @@ unfolding bytes_field
 bytes_some n [] lt = absurd (omega (arith, lt))
 bytes_some n (x ∷ b) lt = let t : (suc (length b) == 0) ≡ false = search rules in rw t refl
 
--- bytes are no longer than their field
-pub bytes_within : (n : ℕ) (b : List ℕ) → length b ≤ length (bytes_field n b)
-bytes_within n [] = omega arith
-bytes_within n (x ∷ b) = omega (arith, ap length (bytes_some n (x ∷ b) (omega arith)), long_len n (x ∷ b))
-
 -- elements that are seen by view and spelled
 pub items_of : {X Y : Type 0} (n : ℕ) (inner : Y → List ℕ) (view : X → Y) (xs : List X) → items_text n (map inner (map view xs)) ≡ flat_map (λ x. long_field n (inner (view x))) xs
 items_of n inner view [] = refl
@@ -54,11 +37,6 @@ items_of n inner view (x ∷ xs) = ap (λ (t : List ℕ). long_field n (inner (v
 -- packed numbers that are seen by value
 pub numbers_of : {X : Type 0} (w : Format) (value : X → NumberValue w) (xs : List X) → numbers_text w (map value xs) ≡ flat_map (λ x. varint (number_to w (value x))) xs
 numbers_of w value xs = flat_map-map (λ v. varint (number_to w v)) value xs
-
--- packed eight-byte values
-pub fixed_length : (vs : List ℕ) → length (fixed_text vs) ≡ 8 * length vs
-fixed_length [] = refl
-fixed_length (v ∷ vs) = omega (arith, length-append (to_le_bytes w64 v) (fixed_text vs), fixed_length vs)
 
 -- the text of the elements up to this one
 pub next_text : {X : Type 0} (f : X → List ℕ) (xs : List X) (i : ℕ) (x : X) → i < length xs → x ≡ get_or xs i x → flat_map f (take (i + 1) xs) ≡ flat_map f (take i xs) ++ f x

@@ -1,5 +1,4 @@
 -- What the code's fields, reasons and faults are to the definitions of `schema`.
-use Rattle.std.specs.Prelude.{ℕ, List}
 use Rattle.schema.specs.Field as wire
 use Rattle.schema.specs.Fault as faults
 use Rattle.pb_wire.specs.declared.fault.Reason.{Reason}

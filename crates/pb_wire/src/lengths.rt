@@ -44,7 +44,7 @@ pub fn fixed_len(number: u32, value: u64) -> u64
 
 /// The length of the row of bytes.
 #[inline]
-#[tactic(auto, using(crate::proofs::Rows::bytes_within, crate::proofs::Rows::bytes_none, crate::proofs::Rows::bytes_some, crate::proofs::Rows::long_len))]
+#[tactic(auto, using(schema_laws::proofs::Growth::bytes_field_le, crate::proofs::Rows::bytes_none, crate::proofs::Rows::bytes_some, schema_laws::proofs::Onto::long_len))]
 pub fn bytes_len(number: u32, bytes: &Blob) -> u64
     requires below { number < 2 ^ 29 }
     requires room { length (bytes_field number bytes.now) < 2 ^ 63 }
@@ -58,7 +58,7 @@ pub fn bytes_len(number: u32, bytes: &Blob) -> u64
 
 /// The length of the row of a text.
 #[inline]
-#[tactic(auto, using(crate::proofs::Rows::bytes_within, crate::proofs::Rows::bytes_none, crate::proofs::Rows::bytes_some, crate::proofs::Rows::long_len))]
+#[tactic(auto, using(schema_laws::proofs::Growth::bytes_field_le, crate::proofs::Rows::bytes_none, crate::proofs::Rows::bytes_some, schema_laws::proofs::Onto::long_len))]
 pub fn text_len(number: u32, text: &Text) -> u64
     requires below { number < 2 ^ 29 }
     requires room { length (bytes_field number text.now) < 2 ^ 63 }
@@ -73,7 +73,7 @@ pub fn text_len(number: u32, text: &Text) -> u64
 
 /// The length of the row of a message.
 #[inline]
-#[tactic(auto, using(crate::proofs::Rows::bytes_within, crate::proofs::Rows::bytes_none, crate::proofs::Rows::bytes_some, crate::proofs::Rows::long_len, crate::proofs::Spelled::onto_len))]
+#[tactic(auto, using(schema_laws::proofs::Growth::bytes_field_le, crate::proofs::Rows::bytes_none, crate::proofs::Rows::bytes_some, schema_laws::proofs::Onto::long_len, schema_laws::proofs::Onto::onto_len))]
 pub fn message_len<T: Wire>(number: u32, message: &T) -> u64
     requires below { number < 2 ^ 29 }
     requires room { length (bytes_field number (spell T.shape (T.view message.now))) < 2 ^ 63 }
@@ -100,7 +100,7 @@ pub(crate) fn packed_len<N: Number>(items: &[N]) -> u64
 }
 
 /// The length of the row of packed numbers.
-#[tactic(auto, using(crate::proofs::Rows::bytes_within, crate::proofs::Rows::bytes_none, crate::proofs::Rows::bytes_some, crate::proofs::Rows::long_len))]
+#[tactic(auto, using(schema_laws::proofs::Growth::bytes_field_le, crate::proofs::Rows::bytes_none, crate::proofs::Rows::bytes_some, schema_laws::proofs::Onto::long_len))]
 pub fn numbers_len<N: Number>(number: u32, items: &Repeated<N>) -> u64
     requires below { number < 2 ^ 29 }
     requires room { length (bytes_field number (numbers_text N.format (map N.value items.now))) < 2 ^ 63 }
@@ -115,7 +115,7 @@ pub fn numbers_len<N: Number>(number: u32, items: &Repeated<N>) -> u64
 
 /// The length of the row of packed eight-byte values.
 #[inline]
-#[tactic(auto, using(crate::proofs::Rows::bytes_within, crate::proofs::Rows::bytes_none, crate::proofs::Rows::bytes_some, crate::proofs::Rows::long_len, crate::proofs::Rows::fixed_length))]
+#[tactic(auto, using(schema_laws::proofs::Growth::bytes_field_le, crate::proofs::Rows::bytes_none, crate::proofs::Rows::bytes_some, schema_laws::proofs::Onto::long_len, schema_laws::proofs::Fixed::fixed_len))]
 pub fn fixed_list_len(number: u32, items: &Repeated<u64>) -> u64
     requires below { number < 2 ^ 29 }
     requires room { length (bytes_field number (fixed_text items.now)) < 2 ^ 63 }
@@ -128,7 +128,7 @@ pub fn fixed_list_len(number: u32, items: &Repeated<u64>) -> u64
 }
 
 /// The length of the row of repeated bytes.
-#[tactic(auto, using(crate::proofs::Rows::long_len))]
+#[tactic(auto, using(schema_laws::proofs::Onto::long_len))]
 pub fn bytes_list_len(number: u32, items: &Repeated<Blob>) -> u64
     requires below { number < 2 ^ 29 }
     requires room { length (items_text number items.now) < 2 ^ 63 }
@@ -142,7 +142,7 @@ pub fn bytes_list_len(number: u32, items: &Repeated<Blob>) -> u64
 }
 
 /// The length of the row of repeated texts.
-#[tactic(auto, using(crate::proofs::Rows::long_len))]
+#[tactic(auto, using(schema_laws::proofs::Onto::long_len))]
 pub fn text_list_len(number: u32, items: &Repeated<Text>) -> u64
     requires below { number < 2 ^ 29 }
     requires room { length (items_text number items.now) < 2 ^ 63 }
@@ -156,7 +156,7 @@ pub fn text_list_len(number: u32, items: &Repeated<Text>) -> u64
 }
 
 /// The length of the row of repeated messages.
-#[tactic(auto, using(crate::proofs::Rows::long_len, crate::proofs::Spelled::onto_len, crate::proofs::Rows::items_of))]
+#[tactic(auto, using(schema_laws::proofs::Onto::long_len, schema_laws::proofs::Onto::onto_len, crate::proofs::Rows::items_of))]
 pub fn messages_len<T: Wire>(number: u32, items: &Repeated<T>) -> u64
     requires below { number < 2 ^ 29 }
     requires room { length (items_text number (map (spell T.shape) (map T.view items.now))) < 2 ^ 63 }

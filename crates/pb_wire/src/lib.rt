@@ -7,6 +7,8 @@ mod field;
 mod lengths;
 mod memory;
 mod next;
+#[cfg(test)]
+mod next_tests;
 mod number;
 mod pieces;
 mod put;
@@ -15,6 +17,10 @@ mod put_rows;
 mod put_tests;
 mod repeated;
 mod take;
+#[cfg(test)]
+mod take_tests;
+#[cfg(test)]
+mod test_messages;
 mod text;
 mod wire;
 

@@ -8,7 +8,7 @@ use crate::{Blob, NoMemory, Payload};
 
 /// The length of the shortest varint, 1 to 10 bytes.
 #[inline]
-#[tactic(auto, using(crate::proofs::Spelled::varint_small))]
+#[tactic(auto, using(schema_laws::proofs::Onto::varint_small))]
 pub fn varint_len(value: u64) -> usize
     ensures len { result ≡ length (varint value) }
     ensures most { result ≤ 10 }
@@ -38,7 +38,7 @@ pub fn varint_len(value: u64) -> usize
 
 /// Puts the shortest varint at the end; after want of memory a part of it may stand there.
 #[inline]
-#[tactic(auto, using(crate::proofs::Spelled::varint_small, crate::proofs::Spelled::varint_onto, crate::proofs::Begins::growing))]
+#[tactic(auto, using(schema_laws::proofs::Onto::varint_small, schema_laws::proofs::Onto::varint_onto, crate::proofs::Begins::growing))]
 pub(crate) fn push_varint(out: &mut Blob, value: u64) -> Result<(), NoMemory>
     ensures ok { OnOk result (out.new ≡ out.old ++ varint value) }
     ensures err { OnErr result (Begins out.old out.new) }

@@ -108,7 +108,7 @@ pub fn put_text_list(out: &mut Blob, number: u32, items: &Repeated<Text>) -> Res
 }
 
 /// Puts a message, whose length is known, behind its tag and length.
-#[tactic(auto, using(crate::proofs::Begins::growing, crate::proofs::Rows::long_onto, crate::proofs::Spelled::onto, crate::proofs::Spelled::onto_len))]
+#[tactic(auto, using(crate::proofs::Begins::growing, schema_laws::proofs::Onto::long_onto, schema_laws::proofs::Onto::onto, schema_laws::proofs::Onto::onto_len))]
 fn push_message<T: Wire>(out: &mut Blob, number: u32, len: u64, message: &T) -> Result<(), NoMemory>
     requires below { number < 2 ^ 29 }
     requires same { len ≡ len_onto T.shape 0 (T.view message.now) }
@@ -123,7 +123,7 @@ fn push_message<T: Wire>(out: &mut Blob, number: u32, len: u64, message: &T) -> 
 }
 
 /// Puts a message that is not empty.
-#[tactic(auto, using(crate::proofs::Begins::growing, crate::proofs::Rows::bytes_within, crate::proofs::Rows::left_out, crate::proofs::Rows::bytes_some, crate::proofs::Spelled::onto_len))]
+#[tactic(auto, using(crate::proofs::Begins::growing, schema_laws::proofs::Growth::bytes_field_le, crate::proofs::Rows::left_out, crate::proofs::Rows::bytes_some, schema_laws::proofs::Onto::onto_len))]
 pub fn put_message<T: Wire>(out: &mut Blob, number: u32, message: &T) -> Result<(), NoMemory>
     requires below { number < 2 ^ 29 }
     requires room { length (bytes_field number (spell T.shape (T.view message.now))) < 2 ^ 63 }
@@ -173,7 +173,7 @@ fn push_packed<N: Number>(out: &mut Blob, items: &[N]) -> Result<(), NoMemory>
 }
 
 /// Puts numbers, unless there are none, packed behind one tag and length.
-#[tactic(auto, using(crate::proofs::Begins::growing, crate::proofs::Rows::long_onto, crate::proofs::Rows::bytes_within, crate::proofs::Rows::left_out, crate::proofs::Rows::bytes_some))]
+#[tactic(auto, using(crate::proofs::Begins::growing, schema_laws::proofs::Onto::long_onto, schema_laws::proofs::Growth::bytes_field_le, crate::proofs::Rows::left_out, crate::proofs::Rows::bytes_some))]
 pub fn put_numbers<N: Number>(
     out: &mut Blob,
     number: u32,
@@ -210,7 +210,7 @@ fn push_eights(out: &mut Blob, items: &[u64]) -> Result<(), NoMemory>
 }
 
 /// Puts eight-byte values, unless there are none, packed behind one tag and length.
-#[tactic(auto, using(crate::proofs::Begins::growing, crate::proofs::Rows::long_onto, crate::proofs::Rows::bytes_within, crate::proofs::Rows::left_out, crate::proofs::Rows::bytes_some, crate::proofs::Rows::fixed_length))]
+#[tactic(auto, using(crate::proofs::Begins::growing, schema_laws::proofs::Onto::long_onto, schema_laws::proofs::Growth::bytes_field_le, crate::proofs::Rows::left_out, crate::proofs::Rows::bytes_some, schema_laws::proofs::Fixed::fixed_len))]
 pub fn put_fixed_list(out: &mut Blob, number: u32, items: &Repeated<u64>) -> Result<(), NoMemory>
     requires below { number < 2 ^ 29 }
     requires room { length (bytes_field number (fixed_text items.now)) < 2 ^ 63 }

@@ -1,136 +1,10 @@
 //! Bytes that are written, against the examples of the Protocol Buffers encoding guide.
-ghost use Rattle.std.specs.Prelude.{◌≡◌, ◌≤◌, ◌∷◌, [], pos, map, refl, length, IfOk};
-ghost use Rattle.schema.specs.Shape.{Number, Fixed, Bytes, Text, One, Many, End, I32, I64, U64};
+ghost use Rattle.std.specs.Prelude.{◌≡◌, ◌≤◌, ◌∷◌, [], pos, length, IfOk};
 
+use crate::test_messages::Leaf;
 use crate::*;
 use std::alloc::Global;
 use std::test::Fail;
-
-/// Two rows.
-#[derive(Debug, Drop)]
-struct Leaf {
-    count: i32,
-    name: crate::Text,
-}
-
-impl Wire for Leaf {
-    ghost shape = { One 1 (Number I32) (One 2 Text End) };
-
-    ghost view = { λ m. (m.count, (m.name, tt)) };
-
-    ghost message = { tt };
-
-    ghost lawful = { refl };
-
-    fn none(alloc: Global) -> Leaf {
-        Leaf {
-            count: 0,
-            name: crate::Text::begin(alloc),
-        }
-    }
-
-    fn take(&mut self, _alloc: Global, _field: &Field<'_>) -> Result<(), ReadFault> {
-        Err(ReadFault::NoMemory)
-    }
-
-    fn rows_len(&self) -> u64 {
-        number_len(1, self.count) + text_len(2, &self.name)
-    }
-
-    fn put_rows(&self, out: &mut Blob) -> Result<(), NoMemory> {
-        put_number(out, 1, self.count)?;
-        put_text(out, 2, &self.name)?;
-        Ok(())
-    }
-}
-
-/// A row of each kind.
-#[derive(Debug, Drop)]
-struct Tree {
-    leaf: Leaf,
-    leaves: Repeated<Leaf>,
-    time: u64,
-    duration: u64,
-    period: i64,
-    id: Blob,
-    times: Repeated<u64>,
-    payloads: Repeated<Blob>,
-    indices: Repeated<i32>,
-    names: Repeated<crate::Text>,
-}
-
-impl Wire for Tree {
-    ghost shape = { One 1 (One 1 (Number I32) (One 2 Text End)) (Many 2 (One 1 (Number I32) (One 2 Text End)) (One 3 Fixed (One 4 (Number U64) (One 6 (Number I64)
-        (One 7 Bytes (Many 8 Fixed (Many 10 Bytes (Many 11 (Number I32) (Many 12 Text End))))))))) };
-
-    ghost view = { λ m. (
-      (m.leaf.count, (m.leaf.name, tt)),
-      (
-        map (λ l. (l.count, (l.name, tt))) m.leaves,
-        (
-          m.time,
-          (
-            m.duration,
-            (
-              m.period,
-              (m.id, (m.times, (m.payloads, (map (λ x. x) m.indices, (m.names, tt))))),
-            ),
-          ),
-        ),
-      ),
-    ) };
-
-    ghost message = { tt };
-
-    ghost lawful = { refl };
-
-    fn none(alloc: Global) -> Tree {
-        Tree {
-            leaf: Leaf::none(alloc),
-            leaves: Repeated::begin(alloc),
-            time: 0,
-            duration: 0,
-            period: 0,
-            id: Blob::begin(alloc),
-            times: Repeated::begin(alloc),
-            payloads: Repeated::begin(alloc),
-            indices: Repeated::begin(alloc),
-            names: Repeated::begin(alloc),
-        }
-    }
-
-    fn take(&mut self, _alloc: Global, _field: &Field<'_>) -> Result<(), ReadFault> {
-        Err(ReadFault::NoMemory)
-    }
-
-    fn rows_len(&self) -> u64 {
-        message_len(1, &self.leaf)
-            + messages_len(2, &self.leaves)
-            + fixed_len(3, self.time)
-            + number_len(4, self.duration)
-            + number_len(6, self.period)
-            + bytes_len(7, &self.id)
-            + fixed_list_len(8, &self.times)
-            + bytes_list_len(10, &self.payloads)
-            + numbers_len(11, &self.indices)
-            + text_list_len(12, &self.names)
-    }
-
-    #[tactic(auto, using(crate::proofs::Begins::growing))]
-    fn put_rows(&self, out: &mut Blob) -> Result<(), NoMemory> {
-        put_message(out, 1, &self.leaf)?;
-        put_messages(out, 2, &self.leaves)?;
-        put_fixed(out, 3, self.time)?;
-        put_number(out, 4, self.duration)?;
-        put_number(out, 6, self.period)?;
-        put_bytes(out, 7, &self.id)?;
-        put_fixed_list(out, 8, &self.times)?;
-        put_bytes_list(out, 10, &self.payloads)?;
-        put_numbers(out, 11, &self.indices)?;
-        put_text_list(out, 12, &self.names)?;
-        Ok(())
-    }
-}
 
 #[test]
 fn puts_varints(rt: HostRuntime) -> Result<(), Fail> {
@@ -230,7 +104,7 @@ fn packs_numbers(rt: HostRuntime) -> Result<(), Fail> {
 }
 
 #[test]
-#[tactic(auto, using(crate::proofs::Short::bytes_most, crate::proofs::Rows::fixed_length))]
+#[tactic(auto, using(schema_laws::proofs::Growth::bytes_field_len, schema_laws::proofs::Fixed::fixed_len))]
 fn packs_eights(rt: HostRuntime) -> Result<(), Fail> {
     let mut times = Repeated::begin(rt.alloc());
     times.add(258u64)?;

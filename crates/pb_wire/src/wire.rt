@@ -88,7 +88,7 @@ pub trait Wire: Drop {
     }
 
     /// The length of the canonical spelling. It takes no memory.
-    #[tactic(auto, using(crate::proofs::Spelled::onto_len))]
+    #[tactic(auto, using(schema_laws::proofs::Onto::onto_len))]
     final fn written_len(&self) -> u64
         requires { length (spell shape (view self.now)) < 2 ^ 63 }
         ensures { result ≡ length (spell shape (view self.now)) }
@@ -97,7 +97,7 @@ pub trait Wire: Drop {
     }
 
     /// Puts the canonical spelling at the end, all of it or nothing.
-    #[tactic(auto, using(crate::proofs::Spelled::onto_len, crate::proofs::Spelled::onto))]
+    #[tactic(auto, using(schema_laws::proofs::Onto::onto_len, schema_laws::proofs::Onto::onto))]
     final fn write(&self, out: &mut Blob) -> Result<(), NoMemory>
         requires { length (spell shape (view self.now)) < 2 ^ 63 }
         ensures ok { OnOk result (out.new ≡ out.old ++ spell shape (view self.now)) }

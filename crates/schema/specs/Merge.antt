@@ -1,9 +1,9 @@
 -- Reading: one fold over the fields of bytes, which goes on from a value so far. Its Ok is the message value and its Err
 -- the first fault; both are laws, against the relations of `Value` and `FirstFault`.
-use Rattle.std.specs.Prelude.{◌≡◌, ℕ, zero, suc, ◌+◌, ◌-◌, ◌/◌, ◌%◌, List, [], ◌∷◌, ◌++◌, length, take, drop, Result, Ok, Err, ◌==◌, if◌then◌else◌}
+use Rattle.std.specs.Prelude.{ℕ, zero, suc, ◌-◌, ◌/◌, ◌%◌, List, [], ◌∷◌, ◌++◌, length, take, drop, Result, Ok, Err, ◌==◌, if◌then◌else◌}
 use Rattle.std.specs.Int.{w64, from_le_bytes}
 use Rattle.std.specs.Str.{is_utf8}
-use Rattle.schema.specs.Field.{Payload, Varint, Eight, Long, Four, Field}
+use Rattle.schema.specs.Field.{Payload, Varint, Eight, Long, Field}
 use Rattle.schema.specs.Fault.{Reason, Truncated, NotUtf8, PackedLength, NotBuilt, Fault, fault_at}
 use Rattle.schema.specs.Steps.{◌>>=◌, varint_at, Trace, Done, Bad, Met, trace}
 use Rattle.schema.specs.Shape.{Shape, Number, Fixed, Bytes, Text, Any, Index, Unbuilt, End, One, Many, Format, I32, NumberValue, Value, number_from, empty, fits_one, fits_many}

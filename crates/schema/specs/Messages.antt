@@ -3,7 +3,7 @@
 -- under development; this table alone decides the fields and their numbers. A field's name stands in the comment, and a
 -- field that is not read yet is marked `Unbuilt`, or `unbuilt` for each field of a message.
 use Rattle.std.specs.Prelude.{ℕ, ◌+◌}
-use Rattle.schema.specs.Shape.{Shape, Number, Fixed, Bytes, Text, Any, Index, Unbuilt, End, One, Many, Format, U32, U64, I32, I64, Flag, Table, Mappings, Locations, Functions, Links, Strings, Attributes, Stacks, unbuilt}
+use Rattle.schema.specs.Shape.{Shape, Number, Fixed, Bytes, Text, Any, Index, Unbuilt, End, One, Many, U32, U64, I32, I64, Flag, Mappings, Locations, Functions, Links, Strings, Attributes, Stacks, unbuilt}
 
 -- an index into the string table
 abbrev pub string : Shape

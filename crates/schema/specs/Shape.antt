@@ -1,5 +1,5 @@
 -- The shapes of messages as data, and the values of a shape.
-use Rattle.std.specs.Prelude.{◌≡◌, ℕ, ℤ, pos, ◌%◌, ◌^◌, List, [], Bool, true, false, not, ◌==◌, ◌||◌}
+use Rattle.std.specs.Prelude.{ℕ, ℤ, pos, ◌%◌, ◌^◌, List, [], Bool, false, not, ◌==◌, ◌||◌}
 use Rattle.std.specs.Int.{w32, w64, cast_signed}
 use Rattle.schema.specs.Field.{Payload, wire_type}
 

@@ -1,7 +1,7 @@
 -- The one canonical spelling of a value by its shape: fields ascend by number as the rows do, varints are the shortest,
 -- repeated numbers are one packed field, fields that hold their default are left out, and each element of a repeated
 -- message, text or bytes field is written, also an empty one.
-use Rattle.std.specs.Prelude.{◌≡◌, ℕ, ℤ, zero, suc, ◌+◌, ◌*◌, ◌/◌, ◌%◌, List, [], ◌∷◌, ◌++◌, length, map, nat_lt, ◌==◌, if◌then◌else◌}
+use Rattle.std.specs.Prelude.{ℕ, zero, suc, ◌+◌, ◌*◌, ◌/◌, ◌%◌, List, [], ◌∷◌, ◌++◌, length, map, nat_lt, ◌==◌, if◌then◌else◌}
 use Rattle.std.specs.Int.{w64, cast_unsigned, to_le_bytes}
 use Rattle.std.specs.List.{flat_map}
 use Rattle.schema.specs.Field.{Payload, Varint, Eight, Long, Four}

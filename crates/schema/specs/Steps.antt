@@ -1,6 +1,6 @@
 -- The field at the front of bytes, as a program finds it: from left to right. That these functions read exactly what
 -- the relations of `Spelling` and `FirstFault` say is a law.
-use Rattle.std.specs.Prelude.{◌≡◌, ℕ, zero, suc, ◌+◌, ◌-◌, ◌*◌, ◌/◌, ◌%◌, List, [], ◌∷◌, length, take, drop, Result, Ok, Err, nat_lt, ◌==◌, ◌||◌, if◌then◌else◌}
+use Rattle.std.specs.Prelude.{ℕ, zero, suc, ◌+◌, ◌-◌, ◌*◌, ◌/◌, ◌%◌, List, [], ◌∷◌, length, take, drop, Result, Ok, Err, nat_lt, ◌==◌, ◌||◌, if◌then◌else◌}
 use Rattle.schema.specs.Field.{Payload, Varint, Eight, Long, Four, Field, greatest_number}
 use Rattle.schema.specs.Fault.{Reason, Truncated, VarintLong, FieldNumber, WireType}
 

@@ -23,7 +23,7 @@ use Rattle.schema_laws.proofs.Ranges.{number_fits, fixed_below, PayloadInRange, 
 -- ---- lengths of fields
 
 -- a number's field has twenty bytes at most
-number_len : (n v : ℕ) → n ≤ greatest_number → v < 2 ^ 64 → length (number_field n v) ≤ 20
+pub number_len : (n v : ℕ) → n ≤ greatest_number → v < 2 ^ 64 → length (number_field n v) ≤ 20
 unfolding number_field
 number_len n v le lt = elim (cases_eq v 0) [
   | inl e ↦ let t : (v == 0) ≡ true = eq-eqb _ _ e in let x : number_field n v ≡ [] = rw t refl in omega (arith, ap length x)

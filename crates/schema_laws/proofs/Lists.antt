@@ -27,8 +27,3 @@ octet [] h zero = omega arith
 octet [] h (suc i) = omega arith
 octet (b ∷ bytes) h zero = h.0
 octet (b ∷ bytes) h (suc i) = octet bytes h.1 i
-
--- the same from an index, as a program knows it
-pub octets : (bytes : List ℕ) → ((i : ℕ) → get_or bytes i 0 < 256) → Octets bytes
-octets [] h = tt
-octets (b ∷ bytes) h = (h 0, octets bytes (λ i. h (suc i)))

@@ -34,6 +34,18 @@ varint_large (suc n) le =
     let t : nat_lt (suc n) 128 ≡ false = le-ltb _ _ le in
     rw t (ap (λ (r : List ℕ). (suc n % 128 + 128) ∷ r) (enough n (suc n / 128) (suc n / 128) (omega arith) (omega arith)))
 
+-- a power of 128 is not 0
+one_power : (k : ℕ) → 1 ≤ 128 ^ k
+one_power zero = omega arith
+one_power (suc k) = let p : 128 ^ suc k ≡ 128 ^ k * 128 = pow-suc 128 k in omega (arith, one_power k)
+
+-- its length, by the powers of 128 between which the number lies
+pub varint_length : (k n : ℕ) → 128 ^ k * 128 ≤ n → n < 128 ^ k * 128 * 128 → length (varint n) ≡ k + 2
+varint_length zero n le lt = omega (arith, ap length (varint_large n (omega arith)), ap length (varint_small (n / 128) (omega arith)))
+varint_length (suc k) n le lt =
+    let p : 128 ^ suc k ≡ 128 ^ k * 128 = pow-suc 128 k in
+    omega (arith, one_power k, ap length (varint_large n (omega (arith, one_power k))), varint_length k (n / 128) (omega arith) (omega arith))
+
 -- a number of so many sevens of bits has so many bytes at most
 len_below : (k n : ℕ) → n < 128 ^ k * 128 → length (varint n) ≤ k + 1
 len_below zero n lt = omega (arith, ap length (varint_small n (omega arith)))
@@ -55,9 +67,9 @@ varint_some n = elim (cases_lt n 128) [
   | inr large ↦ omega (arith, ap length (varint_large n large))
 ]
 
--- a byte that is pushed, and the varint of the rest behind it, are the varint
-pub push_more : (old new last : List ℕ) (n : ℕ) → 128 ≤ n → new ≡ old ++ (n % 128 + 128) ∷ [] → last ≡ new ++ varint (n / 128) → last ≡ old ++ varint n
-push_more old new last n le e f = f ∙ ap (λ (t : List ℕ). t ++ varint (n / 128)) e ∙ append_assoc old ((n % 128 + 128) ∷ []) (varint (n / 128)) ∙ ap (λ (t : List ℕ). old ++ t) (sym (varint_large n le))
+-- a byte that goes on, behind what is put, and the varint of the rest are the varint
+pub varint_onto : (out : List ℕ) (n : ℕ) → 128 ≤ n → (out ++ (n % 128 + 128) ∷ []) ++ varint (n / 128) ≡ out ++ varint n
+varint_onto out n le = append_assoc out ((n % 128 + 128) ∷ []) (varint (n / 128)) ∙ ap (λ (t : List ℕ). out ++ t) (sym (varint_large n le))
 
 -- ---- bytes behind their length
 
@@ -70,12 +82,11 @@ long_len n b = omega (arith, length-append (varint (n * 8 + 2)) (varint (length 
 pub long_some : (n : ℕ) (b : List ℕ) → 0 < length (long_field n b)
 long_some n b = omega (arith, long_len n b, varint_some (length b))
 
--- a tag, a length and bytes that are appended one after the other are the field
-pub long_onto : (n : ℕ) (b old first second last : List ℕ) (len : ℕ) → first ≡ old ++ varint (n * 8 + 2) → second ≡ first ++ varint len → len ≡ length b → last ≡ second ++ b
-    → last ≡ old ++ long_field n b
+-- a tag, a length and bytes, behind what is put, are the field
+pub long_onto : (out : List ℕ) (n len : ℕ) (b : List ℕ) → len ≡ length b → ((out ++ varint (n * 8 + 2)) ++ varint len) ++ b ≡ out ++ long_field n b
 unfolding long_field
-long_onto n b old first second last len e f h k =
-    k ∙ ap (λ (t : List ℕ). t ++ b) (f ∙ ap (λ (t : List ℕ). t ++ varint len) e ∙ ap (λ (m : ℕ). (old ++ varint (n * 8 + 2)) ++ varint m) h) ∙ simp append_assoc
+long_onto out n len b e =
+    ap (λ (m : ℕ). ((out ++ varint (n * 8 + 2)) ++ varint m) ++ b) e ∙ simp append_assoc
 
 -- ---- messages
 

@@ -7,13 +7,12 @@ use Rattle.std.proofs.lemmas.Bool.{cases_eq, cases_lt}
 use Rattle.std.proofs.lemmas.Int.{of_z-to_z, to_z_pos}
 use Rattle.std.proofs.Math.Facts.{to_z-neg}
 use Rattle.std.proofs.lemmas.List.{take-append-drop}
-use Rattle.schema.specs.Field.{Eight, Field, Four, Long, Payload, Varint, greatest_number, wire_type}
+use Rattle.schema.specs.Field.{Eight, Field, Four, Long, Payload, Varint, bytes_of, greatest_number, wire_type}
 use Rattle.schema.specs.Shape.{Flag, Format, I32, I64, U32, U64, number_from}
 use Rattle.schema.specs.Merge.{fixed_upto}
 use Rattle.schema.specs.Fits.{Each, FitsNumber}
 use Rattle.schema.specs.Spelling.{SpellsField, SpellsNumber, SpellsNumbers, SpellsPayload, digits}
 use Rattle.schema_laws.proofs.Lists.{Octets, octet, each_left, each_right}
-use Rattle.schema_laws.proofs.Sizes.{payload_len}
 use Rattle.schema_laws.proofs.Numbers.{horner}
 use Rattle.schema_laws.proofs.OneField.{number_some}
 
@@ -111,10 +110,10 @@ pub record FieldInRange (f : Field) : Type 0 where
 
 -- the least bytes of a field: a tag, and a payload
 abbrev pub field_cost : Payload → ℕ
-field_cost p = payload_len p + 2
+field_cost p = length (bytes_of p) + 2
 
 -- a payload that bytes spell is in its range
-payload_in_range : (bytes : List ℕ) (p : Payload) → SpellsPayload bytes p → Octets bytes → PayloadInRange p × (payload_len p + 1 ≤ length bytes)
+payload_in_range : (bytes : List ℕ) (p : Payload) → SpellsPayload bytes p → Octets bytes → PayloadInRange p × (length (bytes_of p) + 1 ≤ length bytes)
 payload_in_range bytes (Varint n) s h = (number_below bytes n s, omega (arith, number_some bytes n s))
 payload_in_range bytes (Eight b) s h = (subst Octets s.0 h, omega (arith, ap length s.0, s.1))
 payload_in_range bytes (Long b) s h = (each_right (λ n. n < 256) s.0 b (subst Octets s.1 h), omega (arith, ap length s.1, length-append s.0 b, number_some s.0 (length b) s.2))

@@ -3,7 +3,7 @@ use Rattle.std.proofs.Common.{◌≡◌, ℕ, zero, suc, ◌+◌, ◌*◌, ◌/�
 use Rattle.std.specs.Prelude.{nat_lt, ◌==◌, ◌||◌}
 use Rattle.std.proofs.lemmas.Bool.{cond_both, ltb-false}
 use Rattle.std.proofs.lemmas.List.{length-take}
-use Rattle.schema.specs.Field.{Payload, Varint, Eight, Long, Four, Field, greatest_number}
+use Rattle.schema.specs.Field.{Payload, Varint, Eight, Long, Four, Field, bytes_of, greatest_number}
 use Rattle.schema.specs.Fault.{Reason, Truncated, VarintLong, FieldNumber}
 use Rattle.schema.specs.Steps.{◌>>=◌, varint_at, bytes_at, payload_at, field_at}
 
@@ -20,18 +20,13 @@ number_size x = length x.1 + 1
 abbrev pub bytes_size : List ℕ × List ℕ → ℕ
 bytes_size x = length x.0 + length x.1
 
--- the bytes that a length-delimited payload holds
-abbrev pub payload_len : Payload → ℕ
-payload_len (Long b) = length b
-payload_len payload = 0
-
 -- a payload's bytes, and what follows it
 abbrev pub payload_size : Payload × List ℕ → ℕ
-payload_size x = payload_len x.0 + length x.1
+payload_size x = length (bytes_of x.0) + length x.1
 
 -- a field's bytes, what follows it, and a byte of its tag
 abbrev pub field_size : Field × List ℕ → ℕ
-field_size x = payload_len x.0.payload + length x.1 + 1
+field_size x = length (bytes_of x.0.payload) + length x.1 + 1
 
 -- what comes next leaves no more
 leaves_bind : {A B E : Type 0} (size : A → ℕ) (next : B → ℕ) (m n : ℕ) (r : Result A E) (f : A → Result B E)

@@ -94,10 +94,6 @@ unplaced (p ∷ ps) base bytes s = (s.0, s.1, s.2, s.3, unplaced ps (base + leng
 pub read_spelled : (base : ℕ) (bytes : List ℕ) (fs : List Field) → Spells bytes fs → (ps : List Placed) × (trace base bytes ≡ trace_of ps) × (fields_of ps ≡ fs)
 read_spelled base bytes fs s = let r = placed fs base bytes s in (r.0, traced r.0 base bytes r.1, r.2)
 
--- and fields that are met are spelled
-pub spelled_read : (base : ℕ) (bytes : List ℕ) (fs : List Field) → (ps : List Placed) × (trace base bytes ≡ trace_of ps) × (fields_of ps ≡ fs) → Spells bytes fs
-spelled_read base bytes fs r = subst (Spells bytes) r.2 (unplaced r.0 base bytes (spelled base bytes r.0 r.1))
-
 -- ---- one spelling of fields at most
 
 -- the first of the fields is read

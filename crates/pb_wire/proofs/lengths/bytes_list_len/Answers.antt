@@ -1,6 +1,7 @@
 use Rattle.std.proofs.Common.{length, ap, arith}
 use Rattle.schema.specs.Spell.{long_field, items_text}
-use Rattle.pb_wire.proofs.Rows.{long_len, long_len_at, next_length, next_within}
+use Rattle.schema_laws.proofs.Onto.{long_len}
+use Rattle.pb_wire.proofs.Rows.{long_len_at, next_length, next_within}
 use Rattle.pb_wire.proofs.lengths.bytes_list_len.Goals as goal
 
 pub long_len-len-requires-clause-room : goal.long_len-len-requires-clause-room

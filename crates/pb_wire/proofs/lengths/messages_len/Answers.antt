@@ -3,7 +3,7 @@ use Rattle.std.specs.List.{flat_map}
 use Rattle.schema.specs.Spell.{long_field, items_text, spell}
 use Rattle.std.proofs.lemmas.List.{take_all}
 use Rattle.pb_wire.proofs.Rows.{items_of, item_within, long_len_at, next_length, next_within}
-use Rattle.pb_wire.proofs.Spelled.{onto_len}
+use Rattle.schema_laws.proofs.Onto.{onto_len}
 use Rattle.pb_wire.proofs.lengths.messages_len.Goals as goal
 
 -- the length of the element's field is within that of the row

@@ -1,13 +1,13 @@
-use Rattle.std.proofs.Common.{◌≡◌, ℕ, ◌*◌, ◌<◌, ◌-◌, ◌∷◌, [], Result, List, ap, ◌∙◌, sym, arith}
+use Rattle.std.proofs.Common.{◌≡◌, ℕ, ◌<◌, ◌-◌, ◌∷◌, List, ap, ◌∙◌, sym, arith}
 use Rattle.std.proofs.lemmas.List.{nil_from_length}
 use Rattle.schema.specs.Steps.{varint_at}
-use Rattle.pb_wire.proofs.Varint.{above, next_scale, goes_on, ends, ends_last, too_long, short, low_fits, last_fits}
+use Rattle.schema_laws.proofs.VarintLoop.{above, next_weight, goes_on, ends, ends_last, too_long, too_short, low_fits, last_fits}
 use Rattle.pb_wire.proofs.next.varint.Goals as goal
 
 pub returns-in_default : goal.returns-in_default
 returns-in_default c =
     let e = nil_from_length c.loop-place.rest.now c.in_default.ensures.cases in
-    short c.loop-place.value c.loop-place.weight (9 - c.loop-place.place) _ (ap (λ (r : List ℕ). above c.loop-place.value c.loop-place.weight (varint_at (9 - c.loop-place.place) r)) (sym e) ∙ c.loop-place.invariant.same)
+    too_short c.loop-place.value c.loop-place.weight (9 - c.loop-place.place) _ (ap (λ (r : List ℕ). above c.loop-place.value c.loop-place.weight (varint_at (9 - c.loop-place.place) r)) (sym e) ∙ c.loop-place.invariant.same)
 
 pub overflow_mul-result : goal.overflow_mul-result
 overflow_mul-result c = omega (arith, (low_fits c.loop-place.value _ _ _ c.loop-place-test.true c.loop-place.invariant.scale c.loop-place.invariant.small c.if-byte-lt128.true))
@@ -21,7 +21,7 @@ returns-then-byte-lt128 c =
     ends c.loop-place.value c.loop-place.weight c.loop-place.place c.from-byte.result _ _ c.loop-place-test.true c.if-byte-lt128.true (ap (λ (r : List ℕ). above c.loop-place.value c.loop-place.weight (varint_at (9 - c.loop-place.place) r)) (sym r) ∙ c.loop-place.invariant.same)
 
 pub overflow_mul-value : goal.overflow_mul-value
-overflow_mul-value c = let l : c.from-byte.result - 128 < 128 = omega (arith, c.in-Some.ensures.cases.0) in omega (arith, (low_fits c.loop-place.value _ _ _ c.loop-place-test.true c.loop-place.invariant.scale c.loop-place.invariant.small l))
+overflow_mul-value c = let l : c.from-byte.result - 128 < 128 = omega arith in omega (arith, (low_fits c.loop-place.value _ _ _ c.loop-place-test.true c.loop-place.invariant.scale c.loop-place.invariant.small l))
 
 pub overflow_add-value : goal.overflow_add-value
 overflow_add-value c = let l : c.from-byte.result - 128 < 128 = omega arith in omega (arith, (low_fits c.loop-place.value _ _ _ c.loop-place-test.true c.loop-place.invariant.scale c.loop-place.invariant.small l))
@@ -35,15 +35,15 @@ loop-place-preserved c =
     let f = low_fits c.loop-place.value _ _ _ c.loop-place-test.true c.loop-place.invariant.scale c.loop-place.invariant.small l in
     let r : c.loop-place.rest.now ≡ c.from-byte.result ∷ c.in-Some.after.now = cc (c.in-Some.ensures.cases.0, c.from-byte.ensures) in
     record {
-      scale = next_scale _ _ c.loop-place.invariant.scale;
+      scale = next_weight _ _ c.loop-place.invariant.scale;
       small = f.2;
-      same = goes_on c.loop-place.value c.loop-place.weight c.loop-place.place c.from-byte.result _ _ c.loop-place-test.true c.if-byte-lt128.false (omega (arith, c.in-Some.ensures.cases.0)) (ap (λ (r : List ℕ). above c.loop-place.value c.loop-place.weight (varint_at (9 - c.loop-place.place) r)) (sym r) ∙ c.loop-place.invariant.same);
+      same = goes_on c.loop-place.value c.loop-place.weight c.loop-place.place c.from-byte.result _ _ c.loop-place-test.true c.if-byte-lt128.false (omega arith) (ap (λ (r : List ℕ). above c.loop-place.value c.loop-place.weight (varint_at (9 - c.loop-place.place) r)) (sym r) ∙ c.loop-place.invariant.same);
     }
 
 pub returns-in_default-split_first : goal.returns-in_default-split_first
 returns-in_default-split_first c =
     let e = nil_from_length c.loop-place.rest.now c.in_default-split_first.ensures.cases in
-    short c.loop-place.value c.loop-place.weight (9 - c.loop-place.place) _ (ap (λ (r : List ℕ). above c.loop-place.value c.loop-place.weight (varint_at (9 - c.loop-place.place) r)) (sym e) ∙ c.loop-place.invariant.same)
+    too_short c.loop-place.value c.loop-place.weight (9 - c.loop-place.place) _ (ap (λ (r : List ℕ). above c.loop-place.value c.loop-place.weight (varint_at (9 - c.loop-place.place) r)) (sym e) ∙ c.loop-place.invariant.same)
 
 pub overflow_add-result-then-byte-lt2 : goal.overflow_add-result-then-byte-lt2
 overflow_add-result-then-byte-lt2 c = omega (arith, last_fits c.loop-place.value _ _ c.from-byte-2.result c.loop-place-test.false (omega arith) c.loop-place.invariant.scale c.loop-place.invariant.small c.if-byte-lt2.true)

@@ -1,6 +1,6 @@
-use Rattle.std.proofs.Common.{◌≡◌, ℕ, ◌+◌, ◌-◌, ◌<◌, ◌≤◌, ◌^◌}
+use Rattle.std.proofs.Common.{◌≡◌, ◌-◌, ◌<◌, ◌^◌}
 use Rattle.schema.specs.Steps.{varint_at}
-use Rattle.pb_wire.proofs.Varint.{above}
+use Rattle.schema_laws.proofs.VarintLoop.{above}
 use Rattle.pb_wire.proofs.next.varint.Given as goal
 
 abbrev pub invariant-loop-place : goal.invariant-loop-place

@@ -1,5 +1,5 @@
 use Rattle.std.proofs.Common.{arith, sym}
-use Rattle.pb_wire.proofs.Spelled.{varint_length}
+use Rattle.schema_laws.proofs.Onto.{varint_length}
 use Rattle.pb_wire.proofs.put.varint_len.Goals as goal
 
 pub returns-then-value-lt16384-clause-len : goal.returns-then-value-lt16384-clause-len

@@ -1,8 +1,9 @@
-use Rattle.std.proofs.Common.{◌≡◌, List, ◌++◌, ◌∷◌, [], Ok, subst, sym, ap, ◌∙◌, map}
+use Rattle.std.proofs.Common.{◌≡◌, ◌++◌, ◌∷◌, [], sym, map}
 use Rattle.std.proofs.lemmas.Result.{err_from_is_err_and}
 use Rattle.std.proofs.lemmas.List.{map_push}
 use Rattle.schema.specs.Merge.{take_field}
-use Rattle.pb_wire.proofs.Occurrences.{put_many_message, put_many_other}
+use Rattle.schema_laws.proofs.Rows.{put_many_message}
+use Rattle.pb_wire.proofs.Occurrences.{put_many_other}
 use Rattle.pb_wire.proofs.Merge.{fault_bind, ok_bind}
 use Rattle.pb_wire.proofs.take.add_message.Goals as goal
 

@@ -1,10 +1,11 @@
-use Rattle.std.proofs.Common.{◌≡◌, ◌++◌, ◌∷◌, [], sym, ap, ◌∙◌, map, length, arith}
+use Rattle.std.proofs.Common.{◌≡◌, ◌++◌, ◌∷◌, [], sym, ap, ◌∙◌, map, arith}
 use Rattle.std.proofs.lemmas.List.{map_push}
 use Rattle.schema.specs.Merge.{put_packed}
 use Rattle.schema.specs.Shape.{number_from}
 use Rattle.pb_wire.specs.View.{reason_view}
-use Rattle.pb_wire.proofs.Occurrences.{packed_goes_on, packed_fails, packed_ends}
-use Rattle.pb_wire.proofs.Merge.{not_empty, is_empty, size_of_varint}
+use Rattle.schema_laws.proofs.Rows.{packed_goes_on, packed_fails, packed_ends}
+use Rattle.schema_laws.proofs.Sizes.{size_of_varint}
+use Rattle.pb_wire.proofs.Merge.{not_empty, is_empty}
 use Rattle.pb_wire.proofs.take.add_packed.Goals as goal
 
 pub returns-in-Err : goal.returns-in-Err

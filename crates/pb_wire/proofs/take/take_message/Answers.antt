@@ -1,6 +1,6 @@
-use Rattle.std.proofs.Common.{◌≡◌, subst, sym, ap, ◌∙◌}
 use Rattle.schema.specs.Merge.{take_field}
-use Rattle.pb_wire.proofs.Occurrences.{put_one_message, put_one_other}
+use Rattle.schema_laws.proofs.Rows.{put_one_message}
+use Rattle.pb_wire.proofs.Occurrences.{put_one_other}
 use Rattle.pb_wire.proofs.take.take_message.Goals as goal
 
 pub returns-in-Bytes : goal.returns-in-Bytes

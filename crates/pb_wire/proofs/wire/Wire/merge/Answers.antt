@@ -1,8 +1,10 @@
-use Rattle.std.proofs.Common.{◌≡◌, ℕ, ◌+◌, ◌-◌, ◌<◌, length, sym, ◌∙◌, arith}
+use Rattle.std.proofs.Common.{sym, ◌∙◌, arith}
 use Rattle.std.proofs.lemmas.Result.{err_from_is_err_and}
 use Rattle.schema.specs.Merge.{take_field}
 use Rattle.pb_wire.specs.View.{front_view, reason_view}
-use Rattle.pb_wire.proofs.Merge.{not_empty, is_empty, size_of_field, run_field, run_bad, run_end, fault_bind, ok_bind}
+use Rattle.schema_laws.proofs.Sizes.{size_of_field}
+use Rattle.schema_laws.proofs.Traces.{run_field, run_bad, run_end}
+use Rattle.pb_wire.proofs.Merge.{not_empty, is_empty, fault_bind, ok_bind}
 use Rattle.pb_wire.proofs.wire.Wire.merge.Goals as goal
 
 pub returns-in-Err : goal.returns-in-Err

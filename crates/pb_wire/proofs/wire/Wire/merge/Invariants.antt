@@ -1,4 +1,4 @@
-use Rattle.std.proofs.Common.{◌≡◌, ℕ, ◌+◌, ◌-◌, ◌<◌, ◌≤◌, ◌^◌, length}
+use Rattle.std.proofs.Common.{◌≡◌, ◌+◌, length}
 use Rattle.schema.specs.Merge.{take_field, merge, run}
 use Rattle.schema.specs.Steps.{trace}
 use Rattle.pb_wire.proofs.wire.Wire.merge.Given as goal

@@ -1,4 +1,4 @@
-use Rattle.std.proofs.Common.{◌≡◌, drop, map, sym, ap, ◌∙◌, arith}
+use Rattle.std.proofs.Common.{drop, map, sym, ap, ◌∙◌, arith}
 use Rattle.schema.specs.Merge.{merge_all}
 use Rattle.schema.specs.Shape.{Value}
 use Rattle.pb_wire.specs.Parts.{part_view}
