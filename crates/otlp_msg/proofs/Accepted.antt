@@ -1,5 +1,5 @@
 -- What is known of a message that was accepted.
-use Rattle.std.proofs.Common.{◌≡◌, ℕ, zero, suc, ◌+◌, ◌*◌, ◌<◌, ◌≤◌, ◌^◌, Bool, true, false, cond, List, [], ◌∷◌, length, get_or, All, Result, Ok, Err, refl, sym, ap, ◌∙◌, arith}
+use Rattle.std.proofs.Common.{◌≡◌, ℕ, suc, ◌<◌, ◌≤◌, ◌^◌, Bool, true, false, cond, List, [], ◌∷◌, length, get_or, All, Result, Ok, Err, refl, ap, arith}
 use Rattle.std.specs.Prelude.{nat_lt}
 use Rattle.std.proofs.lemmas.Bool.{ltb-false}
 use Rattle.std.proofs.lemmas.List.Elements.{All-get_or, All-from_get_or}
@@ -7,7 +7,7 @@ use Rattle.schema.specs.Fault.{Fault}
 use Rattle.schema.specs.Fits.{Each, Fits}
 use Rattle.schema.specs.Merge.{merge}
 use Rattle.schema.specs.Messages.{envelope}
-use Rattle.schema.specs.Shape.{Value, empty}
+use Rattle.schema.specs.Shape.{empty}
 use Rattle.schema.specs.Spell.{spell}
 use Rattle.schema_laws.proofs.Lawful.{lawful_from}
 use Rattle.schema_laws.proofs.ReadFits.{read_fits, read_short}
@@ -25,10 +25,10 @@ each P (x ∷ xs) h = (h 0 x (omega arith), each P xs (λ k d lt. h (suc k) d (o
 pub bytes_of_slice : (xs : List ℕ) → ((k : ℕ) → get_or xs k 0 < 256) → All (λ b. b < 256) xs
 bytes_of_slice xs h k d lt = All-get_or (λ b. b < 256) xs k d lt (All-from_get_or (λ b. b < 256) xs 0 (λ i _. h i))
 
-abbrev Read : Type 0
+abbrev pub Read : Type 0
 Read = Result Message Fault
 
-abbrev Answer : Type 0
+abbrev pub Answer : Type 0
 Answer = Result Message Refusal
 
 -- the value of a test that was passed, and of one that was not failed

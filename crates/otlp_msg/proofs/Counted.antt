@@ -1,16 +1,16 @@
 -- How much there is in a message, as its records and as its value.
-use Rattle.std.proofs.Common.{◌≡◌, ℕ, ◌+◌, ◌<◌, ◌≤◌, ◌^◌, List, [], ◌∷◌, ◌++◌, length, map, sum_by, refl, sym, ap, ◌∙◌, arith, length-append}
+use Rattle.std.proofs.Common.{◌≡◌, ℕ, ◌+◌, ◌≤◌, List, [], ◌∷◌, ◌++◌, length, map, sum_by, refl, ◌∙◌, arith, length-append}
 use Rattle.std.proofs.lemmas.List.{length-map}
 use Rattle.std.proofs.lemmas.List.Sums.{sum_by-cons}
 use Rattle.schema.specs.Messages.{resource_profiles, scope_profiles, profile, dictionary, envelope}
-use Rattle.schema.specs.Shape.{Value, unbuilt, empty}
-use Rattle.schema.specs.Spell.{spell, long_field, bytes_field, items_text, varint}
+use Rattle.schema.specs.Shape.{Value, unbuilt}
+use Rattle.schema.specs.Spell.{spell, long_field, bytes_field, items_text}
 use Rattle.schema_laws.proofs.Onto.{long_len, varint_some}
 use Rattle.otlp_msg.specs.declared.profile.Profile.{Profile}
 use Rattle.otlp_msg.specs.declared.scope_profiles.ScopeProfiles.{ScopeProfiles}
 use Rattle.otlp_msg.specs.declared.resource_profiles.ResourceProfiles.{ResourceProfiles}
 use Rattle.otlp_msg.specs.Counts.{scopes_count, resources_count}
-use Rattle.otlp_msg.specs.Message.{Message, records_of, profiles_in_scopes, profiles_of, samples_in_scopes, samples_of, samples_in_profiles}
+use Rattle.otlp_msg.specs.Message.{Message, records_of, profiles_in_scopes, profiles_of, samples_in_scopes, samples_in_profiles}
 use Rattle.otlp_msg.specs.Views.{profile_view, scope_profiles_view, resource_profiles_view}
 
 -- two sums are equal where their terms are

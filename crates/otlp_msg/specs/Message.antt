@@ -1,14 +1,12 @@
 -- What the bytes of a file say, or the first reason why they are refused.
-use Rattle.std.specs.Prelude.{◌≡◌, ℕ, List, [], ◌∷◌, length, sum_by, if◌then◌else◌, nat_lt, ◌==◌, Bool, true, false, Result, Ok, Err}
+use Rattle.std.specs.Prelude.{◌≡◌, ℕ, List, [], ◌∷◌, length, sum_by, if◌then◌else◌, nat_lt, ◌==◌, Bool, true, Result, Ok, Err}
 use Rattle.schema.specs.Fault as faults
 use Rattle.schema.specs.Fault.{Fault}
 use Rattle.schema.specs.Merge.{merge}
 use Rattle.schema.specs.Messages.{envelope, resource_profiles, scope_profiles, profile, dictionary}
 use Rattle.schema.specs.Shape.{Value, empty, unbuilt}
-use Rattle.pb_wire.specs.declared.fault.WireFault.{WireFault}
 use Rattle.pb_wire.specs.declared.fault.Reason.{Reason}
 use Rattle.pb_wire.specs.declared.fault.Reason.TheVariants as reasons
-use Rattle.otlp_msg.specs.declared.dictionary.TableKind.{TableKind}
 use Rattle.otlp_msg.specs.declared.dictionary.TableKind.TheVariants.{String}
 use Rattle.otlp_msg.specs.declared.refusal.Refusal.{Refusal}
 use Rattle.otlp_msg.specs.declared.refusal.Refusal.TheVariants.{Size, Wire, ZeroEntry, NotBuilt, NoMemory}

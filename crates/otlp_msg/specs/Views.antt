@@ -1,5 +1,5 @@
 -- The records of the code as values of their shapes.
-use Rattle.std.specs.Prelude.{List, [], map}
+use Rattle.std.specs.Prelude.{map}
 use Rattle.schema.specs.Messages.{mapping, location, function, link, attribute, stack, profile, scope_profiles, resource_profiles, dictionary, envelope}
 use Rattle.schema.specs.Shape.{Value, unbuilt, empty}
 use Rattle.otlp_msg.specs.declared.mapping.Mapping.{Mapping}

@@ -6,6 +6,7 @@ mod checked;
 mod counts;
 mod dictionary;
 mod function;
+pub mod laws;
 mod link;
 mod location;
 mod mapping;
