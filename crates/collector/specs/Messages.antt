@@ -6,7 +6,7 @@ use Rattle.outside.specs.declared.files.Got.TheVariants.{Whole, Long, Missing}
 use Rattle.otlp_msg.specs.declared.refusal.Refusal.{Refusal}
 use Rattle.otlp_msg.specs.declared.refusal.Refusal.TheVariants as refusal
 use Rattle.otlp_msg.specs.Texts.{refusal_text}
-use Rattle.otlp_msg.specs.Message.{Message}
+use Rattle.otlp_msg.specs.Message.{Message, message_limit}
 use Rattle.collector.specs.declared.stop.ToolRefusal.TheVariants.{File}
 use Rattle.collector.specs.declared.stop.Stop.{Stop}
 use Rattle.collector.specs.declared.stop.Stop.TheVariants.{Refused, NoMemory}
@@ -31,10 +31,6 @@ abbrev pub bytes_in : List ℕ → Got → Result (List ℕ) Stop
 bytes_in name (Whole bytes) = Ok bytes
 bytes_in name (Long at_least) = Err (stop_of_refusal name (refusal.Size at_least))
 bytes_in name Missing = Err (Refused (File name (codes "missing")))
-
--- the greatest number of bytes of a message
-abbrev pub message_limit : ℕ
-message_limit = 33554432
 
 -- the bytes under a name
 abbrev pub bytes_at : FileMap → List ℕ → Result (List ℕ) Stop

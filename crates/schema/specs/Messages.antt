@@ -1,4 +1,4 @@
--- The schema: the messages of the OpenTelemetry Profiles signal that this program reads, a line a message. It is after
+-- The schema: the messages of the OpenTelemetry Profiles signal, a line a message. It is after
 -- opentelemetry-proto 1.9.0 (`common/v1`, `resource/v1`, `profiles/v1development` and its collector service), which is
 -- under development; this table alone decides the fields and their numbers. A field's name stands in the comment, and a
 -- field that is not read yet is marked `Unbuilt`, or `unbuilt` for each field of a message.

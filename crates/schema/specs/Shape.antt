@@ -65,7 +65,7 @@ Value End = Unit {0}
 Value (One n k rest) = Value k × Value rest
 Value (Many n k rest) = List (Value k) × Value rest
 
--- The number that a varint stands for ("Base 128 Varints", "More Value Types"): 32 bits are the low ones, signed
+-- The number that a varint stands for ("Base 128 Varints", "More Integer Types"): 32 bits are the low ones, signed
 -- numbers are in two's complement, and what is not 0 is true.
 abbrev pub number_from : (w : Format) → ℕ → NumberValue w
 number_from U32 n = n % 2 ^ 32

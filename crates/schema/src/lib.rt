@@ -4,11 +4,31 @@
 
 ghost use Rattle.std.specs.Prelude.{◌≡◌, true};
 ghost use Rattle.schema.specs.Fits.{is_lawful};
-ghost use Rattle.schema.specs.Messages.{envelope, export_response, rpc_status};
+ghost use Rattle.schema.specs.Messages.{envelope, dictionary, resource_profiles, resource, scope_profiles, scope, profile, sample, value_type, link, stack, mapping, location, line, function, attribute, key_value, any_value, array_value, key_value_list, export_response, rpc_status};
 
-/// In each message of the schema no two fields have one number, and each number is one that a tag can hold.
+/// In each message of the schema no two fields have one number, and each number is one that a tag can hold. A field that is
+/// not read yet, an index and an AnyValue are not looked into, so each message is named.
 pub fn table_is_lawful()
     ensures envelope { is_lawful envelope ≡ true }
+    ensures dictionary { is_lawful dictionary ≡ true }
+    ensures resource_profiles { is_lawful resource_profiles ≡ true }
+    ensures resource { is_lawful resource ≡ true }
+    ensures scope_profiles { is_lawful scope_profiles ≡ true }
+    ensures scope { is_lawful scope ≡ true }
+    ensures profile { is_lawful profile ≡ true }
+    ensures sample { is_lawful sample ≡ true }
+    ensures value_type { is_lawful value_type ≡ true }
+    ensures link { is_lawful link ≡ true }
+    ensures stack { is_lawful stack ≡ true }
+    ensures mapping { is_lawful mapping ≡ true }
+    ensures location { is_lawful location ≡ true }
+    ensures line { is_lawful line ≡ true }
+    ensures function { is_lawful function ≡ true }
+    ensures attribute { is_lawful attribute ≡ true }
+    ensures key_value { is_lawful (key_value 1) ≡ true }
+    ensures any_value { is_lawful (any_value 1) ≡ true }
+    ensures array_value { is_lawful (array_value 1) ≡ true }
+    ensures key_value_list { is_lawful (key_value_list 1) ≡ true }
     ensures export_response { is_lawful export_response ≡ true }
     ensures rpc_status { is_lawful rpc_status ≡ true }
 {}
