@@ -2,7 +2,7 @@
 //! far. A payload whose wire type doesn't fit the row is skipped.
 ghost use Rattle.std.specs.Prelude.{◌≡◌, ◌<◌, ◌≤◌, ◌^◌, length, map, Ok};
 ghost use Rattle.schema.specs.Field.{bytes_of};
-ghost use Rattle.schema.specs.Merge.{one_number, one_fixed, one_bytes, one_text, text_of as text_at, put_one, put_many, put_packed, put_numbers, put_fixed, put_packed_fixed, put_bytes, put_texts, packed_reason as packed_reason_of, take_field};
+ghost use Rattle.schema.specs.Merge.{one_number, one_fixed, one_bytes, one_text, text_of as text_at, take_one, take_many, more_packed, more_numbers, more_fixed, more_packed_fixed, more_bytes, more_texts, packed_reason as packed_reason_of, take_field};
 ghost use Rattle.schema.specs.Shape.{fits_one};
 ghost use Rattle.pb_wire.specs.Answers.{Reads, Took};
 ghost use Rattle.pb_wire.specs.RowTypes.{shape_of, RefusesOne, RefusesMany};
@@ -77,7 +77,7 @@ pub fn take_message<T: Wire>(
 ) -> Result<(), ReadFault>
     requires inside { length (bytes_of (payload_view field.now.payload)) ≤ field.now.end }
     requires below { field.now.end < 2 ^ 63 }
-    ensures { Took (T.view slot.new) result (put_one T.shape (take_field T.shape) field.now.at field.now.end (payload_view field.now.payload) (T.view slot.old)) }
+    ensures { Took (T.view slot.new) result (take_one T.shape (take_field T.shape) field.now.at field.now.end (payload_view field.now.payload) (T.view slot.old)) }
 {
     match field.payload {
         Payload::Bytes(bytes) => slot.merge(alloc, bytes, field.end - bytes.len() as u64),
@@ -93,7 +93,7 @@ pub fn add_message<T: Wire>(
 ) -> Result<(), ReadFault>
     requires inside { length (bytes_of (payload_view field.now.payload)) ≤ field.now.end }
     requires below { field.now.end < 2 ^ 63 }
-    ensures { Took (map T.view slot.new) result (put_many T.shape (take_field T.shape) field.now.at field.now.end (payload_view field.now.payload) (map T.view slot.old)) }
+    ensures { Took (map T.view slot.new) result (take_many T.shape (take_field T.shape) field.now.at field.now.end (payload_view field.now.payload) (map T.view slot.old)) }
 {
     match field.payload {
         Payload::Bytes(bytes) => {
@@ -118,7 +118,7 @@ fn packed_reason(reason: Reason) -> Reason
 
 // The numbers of a packed payload, whose tag is at a place.
 fn add_packed<N: Number>(slot: &mut Repeated<N>, bytes: &[u8], at: u64) -> Result<(), ReadFault>
-    ensures { Took (map N.value slot.new) result (put_packed N.format at bytes.now (map N.value slot.old)) }
+    ensures { Took (map N.value slot.new) result (more_packed N.format at bytes.now (map N.value slot.old)) }
 {
     let mut rest = bytes;
     while !rest.is_empty() {
@@ -137,7 +137,7 @@ fn add_packed<N: Number>(slot: &mut Repeated<N>, bytes: &[u8], at: u64) -> Resul
 
 /// Takes the elements of a repeated number, packed or not.
 pub fn add_number<N: Number>(slot: &mut Repeated<N>, field: &Field<'_>) -> Result<(), ReadFault>
-    ensures { Took (map N.value slot.new) result (put_numbers N.format field.now.at (payload_view field.now.payload) (map N.value slot.old)) }
+    ensures { Took (map N.value slot.new) result (more_numbers N.format field.now.at (payload_view field.now.payload) (map N.value slot.old)) }
 {
     match field.payload {
         Payload::Varint(varint) => {
@@ -151,7 +151,7 @@ pub fn add_number<N: Number>(slot: &mut Repeated<N>, field: &Field<'_>) -> Resul
 
 // The eight-byte numbers of a packed payload, whose tag is at a place.
 fn add_packed_fixed(slot: &mut Repeated<u64>, bytes: &[u8], at: u64) -> Result<(), ReadFault>
-    ensures { Took slot.new result (put_packed_fixed at bytes.now slot.old) }
+    ensures { Took slot.new result (more_packed_fixed at bytes.now slot.old) }
 {
     if bytes.len() % 8 != 0 {
         return Err(ReadFault::Wire(WireFault {
@@ -169,7 +169,7 @@ fn add_packed_fixed(slot: &mut Repeated<u64>, bytes: &[u8], at: u64) -> Result<(
 
 /// Takes the elements of a repeated eight-byte number, packed or not.
 pub fn add_fixed(slot: &mut Repeated<u64>, field: &Field<'_>) -> Result<(), ReadFault>
-    ensures { Took slot.new result (put_fixed field.now.at (payload_view field.now.payload) slot.old) }
+    ensures { Took slot.new result (more_fixed field.now.at (payload_view field.now.payload) slot.old) }
 {
     match field.payload {
         Payload::Fixed64(bytes) => {
@@ -187,7 +187,7 @@ pub fn add_bytes(
     alloc: Global,
     field: &Field<'_>,
 ) -> Result<(), ReadFault>
-    ensures { Took slot.new result (Ok (put_bytes (payload_view field.now.payload) slot.old)) }
+    ensures { Took slot.new result (Ok (more_bytes (payload_view field.now.payload) slot.old)) }
 {
     match field.payload {
         Payload::Bytes(bytes) => {
@@ -204,7 +204,7 @@ pub fn add_text(
     alloc: Global,
     field: &Field<'_>,
 ) -> Result<(), ReadFault>
-    ensures { Took slot.new result (put_texts field.now.at (payload_view field.now.payload) slot.old) }
+    ensures { Took slot.new result (more_texts field.now.at (payload_view field.now.payload) slot.old) }
 {
     match field.payload {
         Payload::Bytes(bytes) => {

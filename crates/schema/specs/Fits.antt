@@ -40,6 +40,12 @@ is_lawful (One n k rest) = nat_lt 0 n && (nat_lt n (2 ^ 29) && (is_lawful k && (
 is_lawful (Many n k rest) = nat_lt 0 n && (nat_lt n (2 ^ 29) && (is_lawful k && (is_lawful rest && (is_message rest && not (has_row rest n)))))
 is_lawful s = true
 
+-- the rows of the message ascend by number, from above this one
+abbrev pub ascends : ℕ → Shape → Bool
+ascends n (One m k rest) = nat_lt n m && ascends m rest
+ascends n (Many m k rest) = nat_lt n m && ascends m rest
+ascends n s = true
+
 -- ---- values
 
 -- a number is one of its format

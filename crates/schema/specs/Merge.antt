@@ -73,57 +73,57 @@ abbrev pub refuse_many : {A : Type 0} → Shape → ℕ → Payload → A → Re
 refuse_many k at payload v = if fits_many k payload then Err (fault_at at NotBuilt) else Ok v
 
 -- `inside` takes one field of the message; `at` and `end` are where the tag begins and the payload ends
-abbrev pub put_one : (s : Shape) → (ℕ → ℕ → Field → Value s → Result (Value s) Fault) → ℕ → ℕ → Payload → Value s → Result (Value s) Fault
-put_one (Number w) inside at end payload v = Ok (one_number w payload v)
-put_one (Index T entry) inside at end payload v = Ok (one_number I32 payload v)
-put_one Fixed inside at end payload v = Ok (one_fixed payload v)
-put_one Bytes inside at end payload v = Ok (one_bytes payload v)
-put_one Text inside at end payload v = one_text at payload v
-put_one (Any depth) inside at end payload v = refuse_one (Any depth) at payload v
-put_one (Unbuilt k) inside at end payload v = refuse_one k at payload v
-put_one End inside at end (Long b) v = run inside v (trace (end - length b) b)
-put_one (One n k rest) inside at end (Long b) v = run inside v (trace (end - length b) b)
-put_one (Many n k rest) inside at end (Long b) v = run inside v (trace (end - length b) b)
-put_one s inside at end payload v = Ok v
+abbrev pub take_one : (s : Shape) → (ℕ → ℕ → Field → Value s → Result (Value s) Fault) → ℕ → ℕ → Payload → Value s → Result (Value s) Fault
+take_one (Number w) inside at end payload v = Ok (one_number w payload v)
+take_one (Index T entry) inside at end payload v = Ok (one_number I32 payload v)
+take_one Fixed inside at end payload v = Ok (one_fixed payload v)
+take_one Bytes inside at end payload v = Ok (one_bytes payload v)
+take_one Text inside at end payload v = one_text at payload v
+take_one (Any depth) inside at end payload v = refuse_one (Any depth) at payload v
+take_one (Unbuilt k) inside at end payload v = refuse_one k at payload v
+take_one End inside at end (Long b) v = run inside v (trace (end - length b) b)
+take_one (One n k rest) inside at end (Long b) v = run inside v (trace (end - length b) b)
+take_one (Many n k rest) inside at end (Long b) v = run inside v (trace (end - length b) b)
+take_one s inside at end payload v = Ok v
 
 -- ---- an occurrence of a repeated row, whose elements come behind those so far
 
-abbrev pub put_packed : (w : Format) → ℕ → List ℕ → List (NumberValue w) → Result (List (NumberValue w)) Fault
-put_packed w at b vs = at_place at (packed w b) >>= λ ns. Ok (vs ++ ns)
+abbrev pub more_packed : (w : Format) → ℕ → List ℕ → List (NumberValue w) → Result (List (NumberValue w)) Fault
+more_packed w at b vs = at_place at (packed w b) >>= λ ns. Ok (vs ++ ns)
 
-abbrev pub put_numbers : (w : Format) → ℕ → Payload → List (NumberValue w) → Result (List (NumberValue w)) Fault
-put_numbers w at (Varint n) vs = Ok (vs ++ number_from w n ∷ [])
-put_numbers w at (Long b) vs = put_packed w at b vs
-put_numbers w at payload vs = Ok vs
+abbrev pub more_numbers : (w : Format) → ℕ → Payload → List (NumberValue w) → Result (List (NumberValue w)) Fault
+more_numbers w at (Varint n) vs = Ok (vs ++ number_from w n ∷ [])
+more_numbers w at (Long b) vs = more_packed w at b vs
+more_numbers w at payload vs = Ok vs
 
-abbrev pub put_packed_fixed : ℕ → List ℕ → List ℕ → Result (List ℕ) Fault
-put_packed_fixed at b vs = if length b % 8 == 0 then Ok (vs ++ packed_fixed b) else Err (fault_at at PackedLength)
+abbrev pub more_packed_fixed : ℕ → List ℕ → List ℕ → Result (List ℕ) Fault
+more_packed_fixed at b vs = if length b % 8 == 0 then Ok (vs ++ packed_fixed b) else Err (fault_at at PackedLength)
 
-abbrev pub put_fixed : ℕ → Payload → List ℕ → Result (List ℕ) Fault
-put_fixed at (Eight b) vs = Ok (vs ++ from_le_bytes w64 b ∷ [])
-put_fixed at (Long b) vs = put_packed_fixed at b vs
-put_fixed at payload vs = Ok vs
+abbrev pub more_fixed : ℕ → Payload → List ℕ → Result (List ℕ) Fault
+more_fixed at (Eight b) vs = Ok (vs ++ from_le_bytes w64 b ∷ [])
+more_fixed at (Long b) vs = more_packed_fixed at b vs
+more_fixed at payload vs = Ok vs
 
-abbrev pub put_bytes : Payload → List (List ℕ) → List (List ℕ)
-put_bytes (Long b) vs = vs ++ b ∷ []
-put_bytes payload vs = vs
+abbrev pub more_bytes : Payload → List (List ℕ) → List (List ℕ)
+more_bytes (Long b) vs = vs ++ b ∷ []
+more_bytes payload vs = vs
 
-abbrev pub put_texts : ℕ → Payload → List (List ℕ) → Result (List (List ℕ)) Fault
-put_texts at (Long b) vs = text_of at b >>= λ t. Ok (vs ++ t ∷ [])
-put_texts at payload vs = Ok vs
+abbrev pub more_texts : ℕ → Payload → List (List ℕ) → Result (List (List ℕ)) Fault
+more_texts at (Long b) vs = text_of at b >>= λ t. Ok (vs ++ t ∷ [])
+more_texts at payload vs = Ok vs
 
-abbrev pub put_many : (s : Shape) → (ℕ → ℕ → Field → Value s → Result (Value s) Fault) → ℕ → ℕ → Payload → List (Value s) → Result (List (Value s)) Fault
-put_many (Number w) inside at end payload vs = put_numbers w at payload vs
-put_many (Index T entry) inside at end payload vs = put_numbers I32 at payload vs
-put_many Fixed inside at end payload vs = put_fixed at payload vs
-put_many Bytes inside at end payload vs = Ok (put_bytes payload vs)
-put_many Text inside at end payload vs = put_texts at payload vs
-put_many (Any depth) inside at end payload vs = refuse_many (Any depth) at payload vs
-put_many (Unbuilt k) inside at end payload vs = refuse_many k at payload vs
-put_many End inside at end (Long b) vs = run inside (empty End) (trace (end - length b) b) >>= λ v. Ok (vs ++ v ∷ [])
-put_many (One n k rest) inside at end (Long b) vs = run inside (empty (One n k rest)) (trace (end - length b) b) >>= λ v. Ok (vs ++ v ∷ [])
-put_many (Many n k rest) inside at end (Long b) vs = run inside (empty (Many n k rest)) (trace (end - length b) b) >>= λ v. Ok (vs ++ v ∷ [])
-put_many s inside at end payload vs = Ok vs
+abbrev pub take_many : (s : Shape) → (ℕ → ℕ → Field → Value s → Result (Value s) Fault) → ℕ → ℕ → Payload → List (Value s) → Result (List (Value s)) Fault
+take_many (Number w) inside at end payload vs = more_numbers w at payload vs
+take_many (Index T entry) inside at end payload vs = more_numbers I32 at payload vs
+take_many Fixed inside at end payload vs = more_fixed at payload vs
+take_many Bytes inside at end payload vs = Ok (more_bytes payload vs)
+take_many Text inside at end payload vs = more_texts at payload vs
+take_many (Any depth) inside at end payload vs = refuse_many (Any depth) at payload vs
+take_many (Unbuilt k) inside at end payload vs = refuse_many k at payload vs
+take_many End inside at end (Long b) vs = run inside (empty End) (trace (end - length b) b) >>= λ v. Ok (vs ++ v ∷ [])
+take_many (One n k rest) inside at end (Long b) vs = run inside (empty (One n k rest)) (trace (end - length b) b) >>= λ v. Ok (vs ++ v ∷ [])
+take_many (Many n k rest) inside at end (Long b) vs = run inside (empty (Many n k rest)) (trace (end - length b) b) >>= λ v. Ok (vs ++ v ∷ [])
+take_many s inside at end payload vs = Ok vs
 
 -- ---- messages
 
@@ -138,10 +138,10 @@ take_field (Index T entry) at end f v = Ok v
 take_field (Unbuilt k) at end f v = Ok v
 take_field End at end f v = Ok v
 take_field (One n k rest) at end f v =
-    if f.number == n then (put_one k (take_field k) at end f.payload v.0 >>= λ x. Ok (x, v.1))
+    if f.number == n then (take_one k (take_field k) at end f.payload v.0 >>= λ x. Ok (x, v.1))
     else (take_field rest at end f v.1 >>= λ x. Ok (v.0, x))
 take_field (Many n k rest) at end f v =
-    if f.number == n then (put_many k (take_field k) at end f.payload v.0 >>= λ x. Ok (x, v.1))
+    if f.number == n then (take_many k (take_field k) at end f.payload v.0 >>= λ x. Ok (x, v.1))
     else (take_field rest at end f v.1 >>= λ x. Ok (v.0, x))
 
 -- what bytes that begin at this place are for a shape, over the value so far: its value, or its first fault

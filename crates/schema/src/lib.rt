@@ -3,7 +3,7 @@
 #![tactic(auto)]
 
 ghost use Rattle.std.specs.Prelude.{◌≡◌, true};
-ghost use Rattle.schema.specs.Fits.{is_lawful};
+ghost use Rattle.schema.specs.Fits.{ascends, is_lawful};
 ghost use Rattle.schema.specs.Messages.{envelope, dictionary, resource_profiles, resource, scope_profiles, scope, profile, sample, value_type, link, stack, mapping, location, line, function, attribute, key_value, any_value, array_value, key_value_list, export_response, rpc_status};
 
 /// In each message of the schema no two fields have one number, and each number is one that a tag can hold. A field that is
@@ -31,4 +31,30 @@ pub fn table_is_lawful()
     ensures key_value_list { is_lawful (key_value_list 1) ≡ true }
     ensures export_response { is_lawful export_response ≡ true }
     ensures rpc_status { is_lawful rpc_status ≡ true }
+{}
+
+/// In each message of the schema the fields ascend by number, so what is written by its rows in order ascends too.
+pub fn rows_ascend()
+    ensures envelope { ascends 0 envelope ≡ true }
+    ensures dictionary { ascends 0 dictionary ≡ true }
+    ensures resource_profiles { ascends 0 resource_profiles ≡ true }
+    ensures resource { ascends 0 resource ≡ true }
+    ensures scope_profiles { ascends 0 scope_profiles ≡ true }
+    ensures scope { ascends 0 scope ≡ true }
+    ensures profile { ascends 0 profile ≡ true }
+    ensures sample { ascends 0 sample ≡ true }
+    ensures value_type { ascends 0 value_type ≡ true }
+    ensures link { ascends 0 link ≡ true }
+    ensures stack { ascends 0 stack ≡ true }
+    ensures mapping { ascends 0 mapping ≡ true }
+    ensures location { ascends 0 location ≡ true }
+    ensures line { ascends 0 line ≡ true }
+    ensures function { ascends 0 function ≡ true }
+    ensures attribute { ascends 0 attribute ≡ true }
+    ensures key_value { ascends 0 (key_value 1) ≡ true }
+    ensures any_value { ascends 0 (any_value 1) ≡ true }
+    ensures array_value { ascends 0 (array_value 1) ≡ true }
+    ensures key_value_list { ascends 0 (key_value_list 1) ≡ true }
+    ensures export_response { ascends 0 export_response ≡ true }
+    ensures rpc_status { ascends 0 rpc_status ≡ true }
 {}

@@ -7,7 +7,7 @@ use Rattle.schema.specs.Field.{Long, Payload}
 use Rattle.schema.specs.Fault.{Fault, NotBuilt, NotUtf8, PackedLength, Reason, fault_at}
 use Rattle.schema.specs.Steps.{◌>>=◌}
 use Rattle.schema.specs.Shape.{Any, Bytes, Fixed, Format, I32, Index, Many, Number, NumberValue, One, Shape, Text, Unbuilt, Value, empty, fits_many, fits_one}
-use Rattle.schema.specs.Merge.{at_place, merge, packed, packed_fixed, put_many, put_numbers, put_one, put_packed, take_field, text_of}
+use Rattle.schema.specs.Merge.{at_place, merge, packed, packed_fixed, take_many, more_numbers, take_one, more_packed, take_field, text_of}
 use Rattle.schema.specs.FirstFault.{BadPacked, FieldFault, FirstFault, HasFault, ManyFault, OneFault}
 use Rattle.schema_laws.proofs.Results.{err_is, map_err, map_at, map_both, checked, checked_err, checked_fails, checked_steady, refused_err, refused_fails, refused_steady}
 use Rattle.schema_laws.proofs.StepFaults.{Hits, Misses, Steady, fault_found, fault_read, moved}
@@ -29,13 +29,13 @@ packed_at {A} at (Err d) g e =
     (ap (λ (x : Fault). let r : Result A Reason = Err x.reason in r) q, ap (λ (x : Fault). x.place) (sym q))
 
 -- a packed payload that fails is bad
-packed_hits : (w : Format) (at : ℕ) (b : List ℕ) (vs : List (NumberValue w)) (g : Fault) → put_packed w at b vs ≡ Err g → BadPacked b g.reason × (g.place ≡ at)
+packed_hits : (w : Format) (at : ℕ) (b : List ℕ) (vs : List (NumberValue w)) (g : Fault) → more_packed w at b vs ≡ Err g → BadPacked b g.reason × (g.place ≡ at)
 packed_hits w at b vs g e =
     let p = packed_at at (packed w b) g (map_err (at_place at (packed w b)) (λ (ns : List (NumberValue w)). vs ++ ns) g e) in
     (packed_found w b g.reason p.0, p.1)
 
 -- and a bad one fails
-packed_misses : (w : Format) (at : ℕ) (b : List ℕ) (vs : List (NumberValue w)) (g : Fault) → BadPacked b g.reason × (g.place ≡ at) → put_packed w at b vs ≡ Err g
+packed_misses : (w : Format) (at : ℕ) (b : List ℕ) (vs : List (NumberValue w)) (g : Fault) → BadPacked b g.reason × (g.place ≡ at) → more_packed w at b vs ≡ Err g
 packed_misses w at b vs g p =
     ap (λ (r : Result (List (NumberValue w)) Reason). at_place at r >>= λ ns. Ok (vs ++ ns)) (packed_bad w b g.reason p.0)
     ∙ ap (λ (n : ℕ). let r : Result (List (NumberValue w)) Fault = Err (fault_at n g.reason) in r) (sym p.1)
@@ -46,7 +46,7 @@ place_steady at c (Ok y) x e = e
 place_steady at c (Err r) x e = absurd cc
 
 -- numbers that are taken don't depend on the place
-numbers_steady : (w : Format) (at c : ℕ) (p : Payload) (vs us : List (NumberValue w)) → put_numbers w at p vs ≡ Ok us → put_numbers w c p vs ≡ Ok us
+numbers_steady : (w : Format) (at c : ℕ) (p : Payload) (vs us : List (NumberValue w)) → more_numbers w at p vs ≡ Ok us → more_numbers w c p vs ≡ Ok us
 numbers_steady w at c (Long b) vs us e = map_both (at_place at (packed w b)) (at_place c (packed w b)) (λ (ns : List (NumberValue w)). vs ++ ns) us (λ x q. place_steady at c (packed w b) x q) e
 numbers_steady w at c p vs us e = e
 
@@ -98,7 +98,7 @@ element_steady k a base other b vs ws e = map_both (merge k (empty k) base b) (m
 -- ---- singular rows
 
 -- an occurrence of a singular row that fails has the fault
-one_hits : (k : Shape) → Agrees k → (at end : ℕ) (p : Payload) (v : Value k) (g : Fault) → put_one k (take_field k) at end p v ≡ Err g → OneFault k (FieldFault k) at end p g
+one_hits : (k : Shape) → Agrees k → (at end : ℕ) (p : Payload) (v : Value k) (g : Fault) → take_one k (take_field k) at end p v ≡ Err g → OneFault k (FieldFault k) at end p g
 one_hits (Number w) a at end p v g e = absurd cc
 one_hits (Index T entry) a at end p v g e = absurd cc
 one_hits Fixed a at end p v g e = absurd cc
@@ -110,7 +110,7 @@ one_hits k a at end (Long b) v g e = message_hits k a (end - length b) b v g e
 one_hits k a at end p v g e = absurd cc
 
 -- and one that has the fault fails
-one_misses : (k : Shape) → Agrees k → (at end : ℕ) (p : Payload) (v : Value k) (g : Fault) → OneFault k (FieldFault k) at end p g → put_one k (take_field k) at end p v ≡ Err g
+one_misses : (k : Shape) → Agrees k → (at end : ℕ) (p : Payload) (v : Value k) (g : Fault) → OneFault k (FieldFault k) at end p g → take_one k (take_field k) at end p v ≡ Err g
 one_misses (Number w) a at end p v g e = absurd e
 one_misses (Index T entry) a at end p v g e = absurd e
 one_misses Fixed a at end p v g e = absurd e
@@ -122,7 +122,7 @@ one_misses k a at end (Long b) v g e = message_misses k a (end - length b) b v g
 one_misses k a at end p v g e = absurd e
 
 -- and one that is taken doesn't depend on the place
-one_steady : (k : Shape) → Agrees k → (at end : ℕ) (p : Payload) (v w : Value k) → put_one k (take_field k) at end p v ≡ Ok w → (c d : ℕ) → put_one k (take_field k) c d p v ≡ Ok w
+one_steady : (k : Shape) → Agrees k → (at end : ℕ) (p : Payload) (v w : Value k) → take_one k (take_field k) at end p v ≡ Ok w → (c d : ℕ) → take_one k (take_field k) c d p v ≡ Ok w
 one_steady (Number n) a at end p v w e c d = e
 one_steady (Index T entry) a at end p v w e c d = e
 one_steady Fixed a at end p v w e c d = e
@@ -136,7 +136,7 @@ one_steady k a at end p v w e c d = e
 -- ---- repeated rows
 
 -- an occurrence of a repeated row that fails has the fault
-many_hits : (k : Shape) → Agrees k → (at end : ℕ) (p : Payload) (v : List (Value k)) (g : Fault) → put_many k (take_field k) at end p v ≡ Err g → ManyFault k (FieldFault k) at end p g
+many_hits : (k : Shape) → Agrees k → (at end : ℕ) (p : Payload) (v : List (Value k)) (g : Fault) → take_many k (take_field k) at end p v ≡ Err g → ManyFault k (FieldFault k) at end p g
 many_hits (Number w) a at end (Long b) v g e = packed_hits w at b v g e
 many_hits (Index T entry) a at end (Long b) v g e = packed_hits I32 at b v g e
 many_hits Fixed a at end (Long b) v g e = eights_hits at b v g e
@@ -148,7 +148,7 @@ many_hits k a at end (Long b) v g e = element_hits k a (end - length b) b v g e
 many_hits k a at end p v g e = absurd cc
 
 -- and one that has the fault fails
-many_misses : (k : Shape) → Agrees k → (at end : ℕ) (p : Payload) (v : List (Value k)) (g : Fault) → ManyFault k (FieldFault k) at end p g → put_many k (take_field k) at end p v ≡ Err g
+many_misses : (k : Shape) → Agrees k → (at end : ℕ) (p : Payload) (v : List (Value k)) (g : Fault) → ManyFault k (FieldFault k) at end p g → take_many k (take_field k) at end p v ≡ Err g
 many_misses (Number w) a at end (Long b) v g e = packed_misses w at b v g e
 many_misses (Index T entry) a at end (Long b) v g e = packed_misses I32 at b v g e
 many_misses Fixed a at end (Long b) v g e = eights_misses at b v g e
@@ -160,7 +160,7 @@ many_misses k a at end (Long b) v g e = element_misses k a (end - length b) b v 
 many_misses k a at end p v g e = absurd e
 
 -- and one that is taken doesn't depend on the place
-many_steady : (k : Shape) → Agrees k → (at end : ℕ) (p : Payload) (v w : List (Value k)) → put_many k (take_field k) at end p v ≡ Ok w → (c d : ℕ) → put_many k (take_field k) c d p v ≡ Ok w
+many_steady : (k : Shape) → Agrees k → (at end : ℕ) (p : Payload) (v w : List (Value k)) → take_many k (take_field k) at end p v ≡ Ok w → (c d : ℕ) → take_many k (take_field k) c d p v ≡ Ok w
 many_steady (Number n) a at end p v w e c d = numbers_steady n at c p v w e
 many_steady (Index T entry) a at end p v w e c d = numbers_steady I32 at c p v w e
 many_steady Fixed a at end (Long b) v w e c d = checked_steady (length b % 8 == 0) (v ++ packed_fixed b) (fault_at at PackedLength) (fault_at c PackedLength) w e
@@ -201,28 +201,28 @@ row_steady false here here2 there there2 h i w a b e = map_both there there2 i w
 pub agrees : (s : Shape) → Agrees s
 agrees (One n k rest) = let a = agrees k in let b = agrees rest in record {
   hits = λ at end f v g e. row_hits (f.number == n) (f.number ≡ n) (OneFault k (FieldFault k) at end f.payload g) (FieldFault rest at end f g)
-      (put_one k (take_field k) at end f.payload v.0) (take_field rest at end f v.1)
+      (take_one k (take_field k) at end f.payload v.0) (take_field rest at end f v.1)
       (λ (x : Value k). let r : Value k × Value rest = (x, v.1) in r) (λ (x : Value rest). let r : Value k × Value rest = (v.0, x) in r) g
       (eqb-true f.number n) (eqb-false f.number n) (one_hits k a at end f.payload v.0 g) (b.hits at end f v.1 g) e;
   misses = λ at end f v g e. row_misses (f.number == n) (f.number ≡ n) (OneFault k (FieldFault k) at end f.payload g) (FieldFault rest at end f g)
-      (put_one k (take_field k) at end f.payload v.0) (take_field rest at end f v.1)
+      (take_one k (take_field k) at end f.payload v.0) (take_field rest at end f v.1)
       (λ (x : Value k). let r : Value k × Value rest = (x, v.1) in r) (λ (x : Value rest). let r : Value k × Value rest = (v.0, x) in r) g
       (eqb-true f.number n) (eqb-false f.number n) (one_misses k a at end f.payload v.0 g) (b.misses at end f v.1 g) e;
-  steady = λ at end f v w e c d. row_steady (f.number == n) (put_one k (take_field k) at end f.payload v.0) (put_one k (take_field k) c d f.payload v.0)
+  steady = λ at end f v w e c d. row_steady (f.number == n) (take_one k (take_field k) at end f.payload v.0) (take_one k (take_field k) c d f.payload v.0)
       (take_field rest at end f v.1) (take_field rest c d f v.1)
       (λ (x : Value k). let r : Value k × Value rest = (x, v.1) in r) (λ (x : Value rest). let r : Value k × Value rest = (v.0, x) in r) w
       (λ x q. one_steady k a at end f.payload v.0 x q c d) (λ x q. b.steady at end f v.1 x q c d) e;
 }
 agrees (Many n k rest) = let a = agrees k in let b = agrees rest in record {
   hits = λ at end f v g e. row_hits (f.number == n) (f.number ≡ n) (ManyFault k (FieldFault k) at end f.payload g) (FieldFault rest at end f g)
-      (put_many k (take_field k) at end f.payload v.0) (take_field rest at end f v.1)
+      (take_many k (take_field k) at end f.payload v.0) (take_field rest at end f v.1)
       (λ (x : List (Value k)). let r : List (Value k) × Value rest = (x, v.1) in r) (λ (x : Value rest). let r : List (Value k) × Value rest = (v.0, x) in r) g
       (eqb-true f.number n) (eqb-false f.number n) (many_hits k a at end f.payload v.0 g) (b.hits at end f v.1 g) e;
   misses = λ at end f v g e. row_misses (f.number == n) (f.number ≡ n) (ManyFault k (FieldFault k) at end f.payload g) (FieldFault rest at end f g)
-      (put_many k (take_field k) at end f.payload v.0) (take_field rest at end f v.1)
+      (take_many k (take_field k) at end f.payload v.0) (take_field rest at end f v.1)
       (λ (x : List (Value k)). let r : List (Value k) × Value rest = (x, v.1) in r) (λ (x : Value rest). let r : List (Value k) × Value rest = (v.0, x) in r) g
       (eqb-true f.number n) (eqb-false f.number n) (many_misses k a at end f.payload v.0 g) (b.misses at end f v.1 g) e;
-  steady = λ at end f v w e c d. row_steady (f.number == n) (put_many k (take_field k) at end f.payload v.0) (put_many k (take_field k) c d f.payload v.0)
+  steady = λ at end f v w e c d. row_steady (f.number == n) (take_many k (take_field k) at end f.payload v.0) (take_many k (take_field k) c d f.payload v.0)
       (take_field rest at end f v.1) (take_field rest c d f v.1)
       (λ (x : List (Value k)). let r : List (Value k) × Value rest = (x, v.1) in r) (λ (x : Value rest). let r : List (Value k) × Value rest = (v.0, x) in r) w
       (λ x q. many_steady k a at end f.payload v.0 x q c d) (λ x q. b.steady at end f v.1 x q c d) e;

@@ -12,13 +12,13 @@ use Rattle.schema.specs.Field.{Payload, Varint, Eight, Long, Field}
 use Rattle.schema.specs.Fault.{Reason, NotUtf8, PackedLength, Fault, fault_at}
 use Rattle.schema.specs.Steps.{◌>>=◌, field_at, trace}
 use Rattle.schema.specs.Shape.{Shape, Number, Fixed, Bytes, Text, Any, Index, Unbuilt, End, One, Many, Format, U32, U64, I32, I64, Flag, NumberValue, Value, IsMessage, empty, number_from, number_zero}
-use Rattle.schema.specs.Merge.{run, merge, put_one, put_many, put_packed, put_fixed, packed, packed_fixed, at_place, text_of, take_field}
+use Rattle.schema.specs.Merge.{run, merge, take_one, take_many, more_packed, more_fixed, packed, packed_fixed, at_place, text_of, take_field}
 use Rattle.schema.specs.Spell.{varint, number_to, number_field, fixed_field, long_field, bytes_field, spell, spell_one, spell_many, items_text, numbers_text, fixed_text}
 use Rattle.schema.specs.Fits.{Each, HasRow, Lawful, FitsNumber, FitsTogether, Fits}
 use Rattle.schema_laws.proofs.Results.{ok_is, map_same, map_map}
 use Rattle.schema_laws.proofs.Onto.{varint_some, long_some}
 use Rattle.schema_laws.proofs.Traces.{run_field, run_end}
-use Rattle.schema_laws.proofs.Rows.{put_one_message, put_many_message, packed_by, packed_is, packed_nothing, fixed_nothing}
+use Rattle.schema_laws.proofs.Rows.{take_one_message, take_many_message, packed_by, packed_is, packed_nothing, fixed_nothing}
 use Rattle.schema_laws.proofs.Front.{varint_again, number_again, eight_again, long_again}
 use Rattle.schema_laws.proofs.Fixed.{eight_len, fixed_whole, fixed_again}
 
@@ -134,7 +134,7 @@ ReadAgain k = (x : Value k) → Fits k x → (base : ℕ) → merge k (empty k) 
 
 -- the step at a field of this number takes a payload of the singular row
 abbrev TakesOne : {S : Type 0} → (k : Shape) → Step S → (Value k → S) → ℕ → ℕ → Type 0
-TakesOne k step inject base n = (end : ℕ) (p : Payload) → step base end (record { number = n; payload = p }) (inject (empty k)) ≡ (put_one k (take_field k) base end p (empty k) >>= λ y. Ok (inject y))
+TakesOne k step inject base n = (end : ℕ) (p : Payload) → step base end (record { number = n; payload = p }) (inject (empty k)) ≡ (take_one k (take_field k) base end p (empty k) >>= λ y. Ok (inject y))
 
 -- a singular message
 message_row : (k : Shape) → IsMessage k → {S : Type 0} (step : Step S) (inject : Value k → S) (base n : ℕ) (x : Value k) (text : List ℕ) → 0 < n → n < 2 ^ 29
@@ -143,7 +143,7 @@ message_row : (k : Shape) → IsMessage k → {S : Type 0} (step : Step S) (inje
 message_row k m step inject base n x text some few fits small again takes =
     bytes_row step (inject (empty k)) (inject x) base n (spell k x) text some few small
     (λ e. ap inject (ok_is (empty k) x (sym (run_end (take_field k) (empty k) 0 [] refl) ∙ ap (λ (y : List ℕ). run (take_field k) (empty k) (trace 0 y)) (sym e) ∙ again x fits 0)))
-    (λ end. takes end (Long (spell k x)) ∙ ap (λ (r : Result (Value k) Fault). r >>= λ y. Ok (inject y)) (put_one_message k (take_field k) base end (spell k x) (empty k) m ∙ again x fits (end - length (spell k x))))
+    (λ end. takes end (Long (spell k x)) ∙ ap (λ (r : Result (Value k) Fault). r >>= λ y. Ok (inject y)) (take_one_message k (take_field k) base end (spell k x) (empty k) m ∙ again x fits (end - length (spell k x))))
 
 -- a singular row of any shape
 row_one : (k : Shape) {S : Type 0} (step : Step S) (inject : Value k → S) (base n : ℕ) (x : Value k) (text : List ℕ) → 0 < n → n < 2 ^ 29
@@ -178,7 +178,7 @@ packed_again w P good (v ∷ vs) fits =
 -- a repeated row of numbers
 numbers_row : (w : Format) {S : Type 0} (step : Step S) (inject : List (NumberValue w) → S) (base n : ℕ) (vs : List (NumberValue w)) (text : List ℕ) → 0 < n → n < 2 ^ 29
     → packed w (numbers_text w vs) ≡ Ok vs → length (numbers_text w vs) < 2 ^ 64
-    → ((end : ℕ) → step base end (record { number = n; payload = Long (numbers_text w vs) }) (inject []) ≡ (put_packed w base (numbers_text w vs) [] >>= λ y. Ok (inject y)))
+    → ((end : ℕ) → step base end (record { number = n; payload = Long (numbers_text w vs) }) (inject []) ≡ (more_packed w base (numbers_text w vs) [] >>= λ y. Ok (inject y)))
     → Passes step (inject []) (inject vs) base (bytes_field n (numbers_text w vs)) text
 numbers_row w step inject base n vs text some few again small takes =
     bytes_row step (inject []) (inject vs) base n (numbers_text w vs) text some few small
@@ -186,7 +186,7 @@ numbers_row w step inject base n vs text some few again small takes =
     (λ end. takes end ∙ ap (λ (r : Result (List (NumberValue w)) Reason). (at_place base r >>= λ ns. Ok ([] ++ ns)) >>= λ y. Ok (inject y)) again)
 
 -- packed eight-byte values are read again
-fixed_packed : (at : ℕ) (vs : List ℕ) → packed_fixed (fixed_text vs) ≡ vs → put_fixed at (Long (fixed_text vs)) [] ≡ Ok vs
+fixed_packed : (at : ℕ) (vs : List ℕ) → packed_fixed (fixed_text vs) ≡ vs → more_fixed at (Long (fixed_text vs)) [] ≡ Ok vs
 fixed_packed at vs again =
     cond-true (length (fixed_text vs) % 8 == 0) (Ok ([] ++ packed_fixed (fixed_text vs))) (Err (fault_at at PackedLength)) (eq-eqb _ _ (fixed_whole vs))
     ∙ ap (λ (x : List ℕ). let r : Result (List ℕ) Fault = Ok x in r) again
@@ -194,7 +194,7 @@ fixed_packed at vs again =
 -- a repeated row of eight-byte values
 eights_row : {S : Type 0} (step : Step S) (inject : List ℕ → S) (base n : ℕ) (vs : List ℕ) (text : List ℕ) → 0 < n → n < 2 ^ 29
     → packed_fixed (fixed_text vs) ≡ vs → length (fixed_text vs) < 2 ^ 64
-    → ((end : ℕ) → step base end (record { number = n; payload = Long (fixed_text vs) }) (inject []) ≡ (put_fixed base (Long (fixed_text vs)) [] >>= λ y. Ok (inject y)))
+    → ((end : ℕ) → step base end (record { number = n; payload = Long (fixed_text vs) }) (inject []) ≡ (more_fixed base (Long (fixed_text vs)) [] >>= λ y. Ok (inject y)))
     → Passes step (inject []) (inject vs) base (bytes_field n (fixed_text vs)) text
 eights_row step inject base n vs text some few again small takes =
     bytes_row step (inject []) (inject vs) base n (fixed_text vs) text some few small
@@ -223,7 +223,7 @@ FitsItem k y = Fits k y × (length (spell k y) < 2 ^ 64)
 
 -- the step at a field of this number takes a payload of the repeated row
 abbrev TakesMany : {S : Type 0} → (k : Shape) → Step S → (List (Value k) → S) → ℕ → Type 0
-TakesMany k step inject n = (at end : ℕ) (p : Payload) (vs : List (Value k)) → step at end (record { number = n; payload = p }) (inject vs) ≡ (put_many k (take_field k) at end p vs >>= λ y. Ok (inject y))
+TakesMany k step inject n = (at end : ℕ) (p : Payload) (vs : List (Value k)) → step at end (record { number = n; payload = p }) (inject vs) ≡ (take_many k (take_field k) at end p vs >>= λ y. Ok (inject y))
 
 -- a repeated row of messages
 messages_row : (k : Shape) → IsMessage k → {S : Type 0} (step : Step S) (inject : List (Value k) → S) (base n : ℕ) (xs : List (Value k)) (text : List ℕ) → 0 < n → n < 2 ^ 29
@@ -233,7 +233,7 @@ messages_row k m step inject base n xs text some few fits again takes =
     let e : items_text n (map (spell k) xs) ≡ flat_map (λ x. long_field n (spell k x)) xs = flat_map-map (long_field n) (spell k) xs in
     ap (λ (y : List ℕ). run step (inject []) (trace base (y ++ text))) e
     ∙ items_row step inject (spell k) n (FitsItem k) some few (λ x p. p.1)
-    (λ x p at end vs. takes at end (Long (spell k x)) vs ∙ ap (λ (r : Result (List (Value k)) Fault). r >>= λ y. Ok (inject y)) (put_many_message k (take_field k) at end (spell k x) vs m ∙ ap (λ (r : Result (Value k) Fault). r >>= λ v. Ok (vs ++ v ∷ [])) (again x p.0 (end - length (spell k x)))))
+    (λ x p at end vs. takes at end (Long (spell k x)) vs ∙ ap (λ (r : Result (List (Value k)) Fault). r >>= λ y. Ok (inject y)) (take_many_message k (take_field k) at end (spell k x) vs m ∙ ap (λ (r : Result (Value k) Fault). r >>= λ v. Ok (vs ++ v ∷ [])) (again x p.0 (end - length (spell k x)))))
     [] xs fits base text
     ∙ ap (λ (y : List ℕ). run step (inject xs) (trace (base + length y) text)) (sym e)
 
@@ -292,10 +292,10 @@ round (One n k rest) m lawful S step inject link v fits base text =
     let second = spell rest v.1 in
     let here : TakesOne k step (λ x. inject (x, empty rest)) base n = λ end p.
     link base end (record { number = n; payload = p }) (empty k, empty rest) (inl refl)
-    ∙ linked_here n (put_one k (take_field k) base end p (empty k)) (take_field rest base end (record { number = n; payload = p }) (empty rest)) (λ x. let w : Value k × Value rest = (x, empty rest) in w) (λ x. (empty k, x)) inject in
+    ∙ linked_here n (take_one k (take_field k) base end p (empty k)) (take_field rest base end (record { number = n; payload = p }) (empty rest)) (λ x. let w : Value k × Value rest = (x, empty rest) in w) (λ x. (empty k, x)) inject in
     let there : Links rest step (λ u. inject (v.0, u)) = λ at end f u h.
     link at end f (v.0, u) (inr h)
-    ∙ linked_there f.number n (put_one k (take_field k) at end f.payload v.0) (take_field rest at end f u) (λ x. let w : Value k × Value rest = (x, u) in w) (λ x. (v.0, x)) inject (lawful.5 f.number h) in
+    ∙ linked_there f.number n (take_one k (take_field k) at end f.payload v.0) (take_field rest at end f u) (λ x. let w : Value k × Value rest = (x, u) in w) (λ x. (v.0, x)) inject (lawful.5 f.number h) in
     both_pass step (inject (empty k, empty rest)) (inject (v.0, empty rest)) (inject v) base first second text
     (row_one k step (λ x. inject (x, empty rest)) base n v.0 (second ++ text) lawful.0 lawful.1 fits.0 fits.1 (λ mk. again_of k (round k mk lawful.2)) here)
     (round rest lawful.4 lawful.3 S step (λ u. inject (v.0, u)) there v.1 fits.2 (base + length first) text)
@@ -304,10 +304,10 @@ round (Many n k rest) m lawful S step inject link v fits base text =
     let second = spell rest v.1 in
     let here : TakesMany k step (λ vs. inject (vs, empty rest)) n = λ at end p vs.
     link at end (record { number = n; payload = p }) (vs, empty rest) (inl refl)
-    ∙ linked_here n (put_many k (take_field k) at end p vs) (take_field rest at end (record { number = n; payload = p }) (empty rest)) (λ x. let w : List (Value k) × Value rest = (x, empty rest) in w) (λ x. (vs, x)) inject in
+    ∙ linked_here n (take_many k (take_field k) at end p vs) (take_field rest at end (record { number = n; payload = p }) (empty rest)) (λ x. let w : List (Value k) × Value rest = (x, empty rest) in w) (λ x. (vs, x)) inject in
     let there : Links rest step (λ u. inject (v.0, u)) = λ at end f u h.
     link at end f (v.0, u) (inr h)
-    ∙ linked_there f.number n (put_many k (take_field k) at end f.payload v.0) (take_field rest at end f u) (λ x. let w : List (Value k) × Value rest = (x, u) in w) (λ x. (v.0, x)) inject (lawful.5 f.number h) in
+    ∙ linked_there f.number n (take_many k (take_field k) at end f.payload v.0) (take_field rest at end f u) (λ x. let w : List (Value k) × Value rest = (x, u) in w) (λ x. (v.0, x)) inject (lawful.5 f.number h) in
     both_pass step (inject ([], empty rest)) (inject (v.0, empty rest)) (inject v) base first second text
     (row_many k step (λ x. inject (x, empty rest)) base n v.0 (second ++ text) lawful.0 lawful.1 fits.0 fits.1 (λ mk. again_of k (round k mk lawful.2)) here)
     (round rest lawful.4 lawful.3 S step (λ u. inject (v.0, u)) there v.1 fits.2 (base + length first) text)

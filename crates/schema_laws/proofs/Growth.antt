@@ -8,13 +8,13 @@ use Rattle.schema.specs.Field.{Eight, Field, Long, Payload, Varint, greatest_num
 use Rattle.schema.specs.Fault.{NotUtf8, fault_at}
 use Rattle.schema.specs.Steps.{trace}
 use Rattle.schema.specs.Shape.{Any, Bytes, Fixed, Format, I32, Index, IsMessage, Many, Number, NumberValue, One, Shape, Text, Unbuilt, Value, number_from}
-use Rattle.schema.specs.Merge.{merge, one_bytes, one_fixed, one_number, one_text, put_one, run, take_field}
+use Rattle.schema.specs.Merge.{merge, one_bytes, one_fixed, one_number, one_text, take_one, run, take_field}
 use Rattle.schema.specs.Spell.{bytes_field, fixed_field, long_field, number_field, number_to, spell, spell_one, varint}
 use Rattle.schema.specs.Fits.{Each, FitsNumber}
 use Rattle.schema_laws.proofs.Results.{ok_is, bind_ok, checked_ok}
 use Rattle.schema_laws.proofs.Onto.{varint_at_most, long_len}
 use Rattle.schema_laws.proofs.Traces.{trace_end}
-use Rattle.schema_laws.proofs.Rows.{put_one_message, put_one_short}
+use Rattle.schema_laws.proofs.Rows.{take_one_message, take_one_short}
 use Rattle.schema_laws.proofs.Fixed.{eight_len}
 use Rattle.schema_laws.proofs.Spelled.{Begins, begins}
 use Rattle.schema_laws.proofs.Lists.{Octets, each_left, each_right}
@@ -190,18 +190,18 @@ message_grows n le a c more room h = let g = bytes_field_le n a in let l = bytes
 
 -- a singular message
 one_message : (k : Shape) → IsMessage k → Keeps k → (n : ℕ) → n ≤ greatest_number → (at end : ℕ) (p : Payload) (u v : Value k) → PayloadInRange p → InRange k u
-    → length (bytes_field n (spell k u)) + 16 * field_cost p < 2 ^ 64 → put_one k (take_field k) at end p u ≡ Ok v
+    → length (bytes_field n (spell k u)) + 16 * field_cost p < 2 ^ 64 → take_one k (take_field k) at end p u ≡ Ok v
     → Grows (InRange k) (λ x. length (bytes_field n (spell k x))) u (field_cost p) v
 one_message k m keep n le at end (Long b) u v r i room e =
     let l = bytes_field_le n (spell k u) in
-    let g = message_keeps k keep (end - length b) b u v r i (omega arith) (sym (put_one_message k (take_field k) at end b u m) ∙ e) in
+    let g = message_keeps k keep (end - length b) b u v r i (omega arith) (sym (take_one_message k (take_field k) at end b u m) ∙ e) in
     (g.0, message_grows n le (spell k u) (spell k v) (length b) room g.1)
 one_message k m keep n le at end p u v r i room e =
-    stays (InRange k) (λ x. length (bytes_field n (spell k x))) u v (field_cost p) (ok_is u v (sym (put_one_short k (take_field k) at end p u m tt) ∙ e)) i
+    stays (InRange k) (λ x. length (bytes_field n (spell k x))) u v (field_cost p) (ok_is u v (sym (take_one_short k (take_field k) at end p u m tt) ∙ e)) i
 
 -- a singular row of any shape
 pub one_keeps : (k : Shape) → Keeps k → (n : ℕ) → n ≤ greatest_number → (at end : ℕ) (p : Payload) (u v : Value k) → PayloadInRange p → InRange k u
-    → length (spell_one k (spell k) n u) + 16 * field_cost p < 2 ^ 64 → put_one k (take_field k) at end p u ≡ Ok v
+    → length (spell_one k (spell k) n u) + 16 * field_cost p < 2 ^ 64 → take_one k (take_field k) at end p u ≡ Ok v
     → Grows (InRange k) (λ x. length (spell_one k (spell k) n x)) u (field_cost p) v
 one_keeps (Number w) keep n le at end p u v r i room e = number_keeps w n le p u v r i (ok_is (one_number w p u) v e)
 one_keeps (Index T entry) keep n le at end p u v r i room e = number_keeps I32 n le p u v r i (ok_is (one_number I32 p u) v e)

@@ -11,12 +11,12 @@ use Rattle.schema.specs.Field.{Eight, Long, Payload, Varint, greatest_number}
 use Rattle.schema.specs.Fault.{Fault, NotBuilt, NotUtf8, PackedLength, Reason, fault_at}
 use Rattle.schema.specs.Steps.{◌>>=◌}
 use Rattle.schema.specs.Shape.{Any, Bytes, Fixed, Flag, Format, I32, I64, Index, IsMessage, Many, Number, NumberValue, One, Shape, Text, U32, U64, Unbuilt, Value, empty, fits_many, number_from, number_zero}
-use Rattle.schema.specs.Merge.{at_place, merge, packed, packed_fixed, put_bytes, put_fixed, put_many, put_numbers, put_one, put_texts, take_field, text_of}
+use Rattle.schema.specs.Merge.{at_place, merge, packed, packed_fixed, more_bytes, more_fixed, take_many, more_numbers, take_one, more_texts, take_field, text_of}
 use Rattle.schema.specs.Spell.{bytes_field, fixed_field, fixed_text, items_text, long_field, number_field, number_to, numbers_text, spell, spell_many, spell_one, varint}
 use Rattle.schema.specs.Fits.{Each, FitsNumber}
 use Rattle.schema_laws.proofs.Results.{ok_is, bind_ok, checked_ok, refused_ok}
 use Rattle.schema_laws.proofs.Onto.{varint_at_most}
-use Rattle.schema_laws.proofs.Rows.{put_many_message, put_many_short}
+use Rattle.schema_laws.proofs.Rows.{take_many_message, take_many_short}
 use Rattle.schema_laws.proofs.Fixed.{fixed_len}
 use Rattle.schema_laws.proofs.Packed.{packed_right}
 use Rattle.schema_laws.proofs.Lists.{each_append}
@@ -67,7 +67,7 @@ packed_gives w at b (Ok ns) us vs q e =
 
 -- a repeated row of numbers
 numbers_keep : (w : Format) (n : ℕ) → n ≤ greatest_number → (at : ℕ) (p : Payload) (us vs : List (NumberValue w)) → PayloadInRange p → Each (FitsNumber w) us
-    → length (bytes_field n (numbers_text w us)) + 16 * field_cost p < 2 ^ 64 → put_numbers w at p us ≡ Ok vs
+    → length (bytes_field n (numbers_text w us)) + 16 * field_cost p < 2 ^ 64 → more_numbers w at p us ≡ Ok vs
     → Grows (Each (FitsNumber w)) (λ xs. length (bytes_field n (numbers_text w xs))) us (field_cost p) vs
 numbers_keep w n le at (Varint m) us vs r i room e = numbers_grow w n le us (number_from w m ∷ []) vs 2 (ok_is (us ++ number_from w m ∷ []) vs e) i (number_fits w m r, tt) (omega arith) room
 numbers_keep w n le at (Long b) us vs r i room e =
@@ -94,7 +94,7 @@ fixed_grow n le us ns vs cost e i j short room =
 
 -- a repeated row of eight-byte values
 fixed_keep : (n : ℕ) → n ≤ greatest_number → (at : ℕ) (p : Payload) (us vs : List ℕ) → PayloadInRange p → Fixeds us
-    → length (bytes_field n (fixed_text us)) + 16 * field_cost p < 2 ^ 64 → put_fixed at p us ≡ Ok vs → Grows Fixeds (λ xs. length (bytes_field n (fixed_text xs))) us (field_cost p) vs
+    → length (bytes_field n (fixed_text us)) + 16 * field_cost p < 2 ^ 64 → more_fixed at p us ≡ Ok vs → Grows Fixeds (λ xs. length (bytes_field n (fixed_text xs))) us (field_cost p) vs
 fixed_keep n le at (Eight b) us vs r i room e = fixed_grow n le us (from_le_bytes w64 b ∷ []) vs 2 (ok_is (us ++ from_le_bytes w64 b ∷ []) vs e) i (fixed_below b r, tt) (omega arith) room
 fixed_keep n le at (Long b) us vs r i room e =
     let f = eights_fit (length b / 8) b r in
@@ -112,13 +112,13 @@ items_grow In n le us vs b e i j room =
     (item_grows n le (items_text n us) b (items_text n (us ++ b ∷ [])) (length b + 2) (flat_map-append (long_field n) us (b ∷ [])) (omega arith) room)
 
 -- a repeated row of bytes
-bytes_keep : (n : ℕ) → n ≤ greatest_number → (p : Payload) (us vs : List (List ℕ)) → Each (InRange Bytes) us → length (items_text n us) + 16 * field_cost p < 2 ^ 64 → put_bytes p us ≡ vs
+bytes_keep : (n : ℕ) → n ≤ greatest_number → (p : Payload) (us vs : List (List ℕ)) → Each (InRange Bytes) us → length (items_text n us) + 16 * field_cost p < 2 ^ 64 → more_bytes p us ≡ vs
     → Grows (Each (InRange Bytes)) (λ xs. length (items_text n xs)) us (field_cost p) vs
 bytes_keep n le (Long b) us vs i room e = items_grow (InRange Bytes) n le us vs b e i tt (omega arith)
 bytes_keep n le p us vs i room e = stays (Each (InRange Bytes)) (λ xs. length (items_text n xs)) us vs (field_cost p) e i
 
 -- a repeated row of texts
-texts_keep : (n : ℕ) → n ≤ greatest_number → (at : ℕ) (p : Payload) (us vs : List (List ℕ)) → Each (InRange Text) us → length (items_text n us) + 16 * field_cost p < 2 ^ 64 → put_texts at p us ≡ Ok vs
+texts_keep : (n : ℕ) → n ≤ greatest_number → (at : ℕ) (p : Payload) (us vs : List (List ℕ)) → Each (InRange Text) us → length (items_text n us) + 16 * field_cost p < 2 ^ 64 → more_texts at p us ≡ Ok vs
     → Grows (Each (InRange Text)) (λ xs. length (items_text n xs)) us (field_cost p) vs
 texts_keep n le at (Long b) us vs i room e =
     let r = bind_ok (text_of at b) (λ (t : List ℕ). Ok (us ++ t ∷ [])) vs e in
@@ -130,10 +130,10 @@ texts_keep n le at p us vs i room e = stays (Each (InRange Text)) (λ xs. length
 
 -- a repeated row of messages
 many_message : (k : Shape) → IsMessage k → Keeps k → InRange k (empty k) → spell k (empty k) ≡ [] → (n : ℕ) → n ≤ greatest_number → (at end : ℕ) (p : Payload) (us vs : List (Value k)) → PayloadInRange p
-    → Each (InRange k) us → length (items_text n (map (spell k) us)) + 16 * field_cost p < 2 ^ 64 → put_many k (take_field k) at end p us ≡ Ok vs
+    → Each (InRange k) us → length (items_text n (map (spell k) us)) + 16 * field_cost p < 2 ^ 64 → take_many k (take_field k) at end p us ≡ Ok vs
     → Grows (Each (InRange k)) (λ xs. length (items_text n (map (spell k) xs))) us (field_cost p) vs
 many_message k m keep start nothing n le at end (Long b) us vs r i room e =
-    let x = bind_ok (merge k (empty k) (end - length b) b) (λ v. Ok (us ++ v ∷ [])) vs (sym (put_many_message k (take_field k) at end b us m) ∙ e) in
+    let x = bind_ok (merge k (empty k) (end - length b) b) (λ v. Ok (us ++ v ∷ [])) vs (sym (take_many_message k (take_field k) at end b us m) ∙ e) in
     let none : size k (empty k) ≡ 0 = ap length nothing in
     let g = message_keeps k keep (end - length b) b (empty k) x.0 r start (omega arith) x.1 in
     let short = g.1 in
@@ -141,7 +141,7 @@ many_message k m keep start nothing n le at end (Long b) us vs r i room e =
     (item_grows n le (items_text n (map (spell k) us)) (spell k x.0) (items_text n (map (spell k) (us ++ x.0 ∷ []))) (length b + 2)
     (ap (items_text n) (map-append (spell k) us (x.0 ∷ [])) ∙ flat_map-append (long_field n) (map (spell k) us) (spell k x.0 ∷ [])) (omega arith) (omega arith))
 many_message k m keep start nothing n le at end p us vs r i room e =
-    stays (Each (InRange k)) (λ xs. length (items_text n (map (spell k) xs))) us vs (field_cost p) (ok_is us vs (sym (put_many_short k (take_field k) at end p us m tt) ∙ e)) i
+    stays (Each (InRange k)) (λ xs. length (items_text n (map (spell k) xs))) us vs (field_cost p) (ok_is us vs (sym (take_many_short k (take_field k) at end p us m tt) ∙ e)) i
 
 -- what is asked of the elements of a repeated row
 abbrev pub ManyIn : (k : Shape) → List (Value k) → Type 0
@@ -154,12 +154,12 @@ also P length_of us cost vs g = ((g.0, tt), g.1)
 
 -- a repeated row of any shape
 many_keeps : (k : Shape) → Keeps k → InRange k (empty k) → spell k (empty k) ≡ [] → (n : ℕ) → n ≤ greatest_number → (at end : ℕ) (p : Payload) (us vs : List (Value k)) → PayloadInRange p → ManyIn k us
-    → length (spell_many k (spell k) n us) + 16 * field_cost p < 2 ^ 64 → put_many k (take_field k) at end p us ≡ Ok vs
+    → length (spell_many k (spell k) n us) + 16 * field_cost p < 2 ^ 64 → take_many k (take_field k) at end p us ≡ Ok vs
     → Grows (ManyIn k) (λ xs. length (spell_many k (spell k) n xs)) us (field_cost p) vs
 many_keeps (Number w) keep start nothing n le at end p us vs r i room e = also (Each (FitsNumber w)) (λ xs. length (bytes_field n (numbers_text w xs))) us (field_cost p) vs (numbers_keep w n le at p us vs r i.0 room e)
 many_keeps (Index T entry) keep start nothing n le at end p us vs r i room e = also (Each (FitsNumber I32)) (λ xs. length (bytes_field n (numbers_text I32 xs))) us (field_cost p) vs (numbers_keep I32 n le at p us vs r i.0 room e)
 many_keeps Fixed keep start nothing n le at end p us vs r i room e = also Fixeds (λ xs. length (bytes_field n (fixed_text xs))) us (field_cost p) vs (fixed_keep n le at p us vs r i.0 room e)
-many_keeps Bytes keep start nothing n le at end p us vs r i room e = also (Each (InRange Bytes)) (λ xs. length (items_text n xs)) us (field_cost p) vs (bytes_keep n le p us vs i.0 room (ok_is (put_bytes p us) vs e))
+many_keeps Bytes keep start nothing n le at end p us vs r i room e = also (Each (InRange Bytes)) (λ xs. length (items_text n xs)) us (field_cost p) vs (bytes_keep n le p us vs i.0 room (ok_is (more_bytes p us) vs e))
 many_keeps Text keep start nothing n le at end p us vs r i room e = also (Each (InRange Text)) (λ xs. length (items_text n xs)) us (field_cost p) vs (texts_keep n le at p us vs i.0 room e)
 many_keeps (Any depth) keep start nothing n le at end p us vs r i room e =
     stays (ManyIn (Any depth)) (λ xs. 0) us vs (field_cost p) (refused_ok (fits_many (Any depth) p) us vs (fault_at at NotBuilt) e) i
@@ -271,14 +271,14 @@ row_keeps {A} {B} In RestIn text more false here there a b cost v i j room h g e
 pub keeps : (s : Shape) → Keeps s
 keeps (One n k rest) = let a = keeps k in let b = keeps rest in record {
   keeps = λ at end f u v r i room e.
-      let g = row_keeps (InRange k) (InRange rest) (spell_one k (spell k) n) (spell rest) (f.number == n) (put_one k (take_field k) at end f.payload u.0) (take_field rest at end f u.1) u.0 u.1 (field_cost f.payload) v i.0 i.1 room
+      let g = row_keeps (InRange k) (InRange rest) (spell_one k (spell k) n) (spell rest) (f.number == n) (take_one k (take_field k) at end f.payload u.0) (take_field rest at end f u.1) u.0 u.1 (field_cost f.payload) v i.0 i.1 room
       (λ t x room e. one_keeps k a n (subst (λ (m : ℕ). m ≤ greatest_number) (eqb-true f.number n t) r.below) at end f.payload u.0 x r.payload_in i.0 room e)
       (λ y room e. b.keeps at end f u.1 y r i.1 room e) e in
       ((g.0, g.1), g.2);
 }
 keeps (Many n k rest) = let a = keeps k in let b = keeps rest in record {
   keeps = λ at end f u v r i room e.
-      let g = row_keeps (ManyIn k) (InRange rest) (spell_many k (spell k) n) (spell rest) (f.number == n) (put_many k (take_field k) at end f.payload u.0) (take_field rest at end f u.1) u.0 u.1 (field_cost f.payload) v (i.0, i.1) i.2 room
+      let g = row_keeps (ManyIn k) (InRange rest) (spell_many k (spell k) n) (spell rest) (f.number == n) (take_many k (take_field k) at end f.payload u.0) (take_field rest at end f u.1) u.0 u.1 (field_cost f.payload) v (i.0, i.1) i.2 room
       (λ t x room e. many_keeps k a (empty_in k) (spells_nothing k) n (subst (λ (m : ℕ). m ≤ greatest_number) (eqb-true f.number n t) r.below) at end f.payload u.0 x r.payload_in (i.0, i.1) room e)
       (λ y room e. b.keeps at end f u.1 y r i.2 room e) e in
       ((g.0.0, g.0.1, g.1), g.2);

@@ -88,23 +88,34 @@ fits_from s m lawful v i short = absurd m
 
 -- ---- reading
 
--- parts that are read keep the value in its range
+-- parts that are read keep the value in its range, and lengthen its spelling by sixteen bytes at most for each byte
 parts_keep : (s : Shape) (parts : List Part) (u v : Value s) → Octets (joined parts) → InRange s u → size s u + 16 * length (joined parts) < 2 ^ 64 → merge_all s u parts ≡ Ok v
-    → InRange s v × (size s v < 2 ^ 64)
-parts_keep s [] u v o i room e = subst (λ (x : Value s). InRange s x × (size s x < 2 ^ 64)) (ok_is u v e) (i, omega arith)
+    → InRange s v × (size s v ≤ size s u + 16 * length (joined parts))
+parts_keep s [] u v o i room e = subst (λ (x : Value s). InRange s x × (size s x ≤ size s u + 16 * 0)) (ok_is u v e) (i, omega arith)
 parts_keep s (p ∷ ps) u v o i room e =
     let r = bind_ok (merge s u p.base p.bytes) (λ w. merge_all s w ps) v e in
     let l : length (joined (p ∷ ps)) ≡ length p.bytes + length (joined ps) = length-append p.bytes (joined ps) in
     let g = message_keeps s (keeps s) p.base p.bytes u r.0 (each_left (λ n. n < 256) p.bytes (joined ps) o) i (omega arith) r.1 in
     let here = g.1 in
-    parts_keep s ps r.0 v (each_right (λ n. n < 256) p.bytes (joined ps) o) g.0 (omega arith) r.2
+    let more = parts_keep s ps r.0 v (each_right (λ n. n < 256) p.bytes (joined ps) o) g.0 (omega arith) r.2 in
+    let there = more.1 in
+    (more.0, omega arith)
 
 -- the value of parts fits
 pub parts_fit : (s : Shape) → IsMessage s → Lawful s → (parts : List Part) (v : Value s) → Octets (joined parts) → 16 * length (joined parts) < 2 ^ 64 → merge_all s (empty s) parts ≡ Ok v → Fits s v
 parts_fit s m lawful parts v o room e =
     let none : size s (empty s) ≡ 0 = ap length (spells_nothing s) in
     let g = parts_keep s parts (empty s) v o (empty_in s) (omega arith) e in
-    fits_from s m lawful v g.0 g.1
+    let short = g.1 in
+    fits_from s m lawful v g.0 (omega arith)
+
+-- and its spelling is at most sixteen times as long as the parts
+pub parts_short : (s : Shape) → (parts : List Part) (v : Value s) → Octets (joined parts) → 16 * length (joined parts) < 2 ^ 64 → merge_all s (empty s) parts ≡ Ok v → size s v ≤ 16 * length (joined parts)
+parts_short s parts v o room e =
+    let none : size s (empty s) ≡ 0 = ap length (spells_nothing s) in
+    let g = parts_keep s parts (empty s) v o (empty_in s) (omega arith) e in
+    let short = g.1 in
+    omega arith
 
 -- and so does the value of bytes
 pub read_fits : (s : Shape) → IsMessage s → Lawful s → (base : ℕ) (bytes : List ℕ) (v : Value s) → Octets bytes → 16 * length bytes < 2 ^ 64 → merge s (empty s) base bytes ≡ Ok v → Fits s v

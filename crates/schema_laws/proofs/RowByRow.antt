@@ -9,11 +9,11 @@ use Rattle.schema.specs.Field.{Eight, Field, Long, Payload, Varint}
 use Rattle.schema.specs.Fault.{Fault, NotBuilt, NotUtf8, PackedLength, Reason, fault_at}
 use Rattle.schema.specs.Steps.{Bad, Done, Met, Trace, field_at, met, trace, trace_upto, ◌>>=◌}
 use Rattle.schema.specs.Shape.{Any, Bytes, Fixed, Format, I32, Index, IsMessage, Many, Number, NumberValue, One, Shape, Text, Unbuilt, Value, empty, fits_many, number_from}
-use Rattle.schema.specs.Merge.{at_place, merge, one_bytes, one_fixed, one_number, one_text, packed, packed_fixed, put_bytes, put_fixed, put_many, put_numbers, put_one, put_texts, run, take_field, text_of}
+use Rattle.schema.specs.Merge.{at_place, merge, one_bytes, one_fixed, one_number, one_text, packed, packed_fixed, more_bytes, more_fixed, take_many, more_numbers, take_one, more_texts, run, take_field, text_of}
 use Rattle.schema.specs.Value.{bytes_in, fixed_in, number_in, of_number, others}
 use Rattle.schema_laws.proofs.Results.{ok_is, bind_ok, checked_ok, refused_ok}
 use Rattle.schema_laws.proofs.Traces.{fields}
-use Rattle.schema_laws.proofs.Rows.{put_one_message, put_many_message, put_one_short, put_many_short}
+use Rattle.schema_laws.proofs.Rows.{take_one_message, take_many_message, take_one_short, take_many_short}
 
 -- ---- the value
 
@@ -146,11 +146,11 @@ value_nil s v = refl
 -- ---- singular rows
 
 -- a singular message, a payload at a time
-one_message : (k : Shape) → IsMessage k → Law k → (at end : ℕ) (p : Payload) (ps : List Payload) (u x : Value k) → put_one k (take_field k) at end p u ≡ Ok x
+one_message : (k : Shape) → IsMessage k → Law k → (at end : ℕ) (p : Payload) (ps : List Payload) (u x : Value k) → take_one k (take_field k) at end p u ≡ Ok x
     → value k u (flat_map inside (p ∷ ps)) ≡ value k x (flat_map inside ps)
 one_message k m law at end (Long b) ps u x e =
-    ap (λ (t : List Field). value k u (t ++ flat_map inside ps)) (sym (fields_place (end - length b) b)) ∙ law (trace (end - length b) b) u x (flat_map inside ps) (sym (put_one_message k (take_field k) at end b u m) ∙ e)
-one_message k m law at end p ps u x e = ap (λ (y : Value k). value k y (flat_map inside ps)) (ok_is u x (sym (put_one_short k (take_field k) at end p u m tt) ∙ e))
+    ap (λ (t : List Field). value k u (t ++ flat_map inside ps)) (sym (fields_place (end - length b) b)) ∙ law (trace (end - length b) b) u x (flat_map inside ps) (sym (take_one_message k (take_field k) at end b u m) ∙ e)
+one_message k m law at end p ps u x e = ap (λ (y : Value k). value k y (flat_map inside ps)) (ok_is u x (sym (take_one_short k (take_field k) at end p u m tt) ∙ e))
 
 -- what a payload says of a number
 number_said : (w : Format) (p : Payload) (u : NumberValue w) → or_else (number_in w p) u ≡ one_number w p u
@@ -173,7 +173,7 @@ text_said at (Long b) u x e = (checked_ok (is_utf8 b) b x (fault_at at NotUtf8) 
 text_said at p u x e = ok_is u x e
 
 -- a singular row of any shape, a payload at a time
-one_step : (k : Shape) → Law k → (at end : ℕ) (p : Payload) (ps : List Payload) (u x : Value k) → put_one k (take_field k) at end p u ≡ Ok x
+one_step : (k : Shape) → Law k → (at end : ℕ) (p : Payload) (ps : List Payload) (u x : Value k) → take_one k (take_field k) at end p u ≡ Ok x
     → one_value k (value k) (p ∷ ps) u ≡ one_value k (value k) ps x
 one_step (Number w) law at end p ps u x e = ap (last_said (number_in w) ps) (number_said w p u ∙ ok_is (one_number w p u) x e)
 one_step (Index T entry) law at end p ps u x e = ap (last_said (number_in I32) ps) (number_said I32 p u ∙ ok_is (one_number I32 p u) x e)
@@ -187,13 +187,13 @@ one_step k law at end p ps u x e = one_message k tt law at end p ps u x e
 -- ---- repeated rows
 
 -- what an occurrence of a repeated message gains
-many_message : (k : Shape) → IsMessage k → Law k → (at end : ℕ) (p : Payload) (u x : List (Value k)) → put_many k (take_field k) at end p u ≡ Ok x
+many_message : (k : Shape) → IsMessage k → Law k → (at end : ℕ) (p : Payload) (u x : List (Value k)) → take_many k (take_field k) at end p u ≡ Ok x
     → u ++ messages_of (value k (empty k)) p ≡ x
 many_message k m law at end (Long b) u x e =
-    let r = bind_ok (run (take_field k) (empty k) (trace (end - length b) b)) (λ v. Ok (u ++ v ∷ [])) x (sym (put_many_message k (take_field k) at end b u m) ∙ e) in
+    let r = bind_ok (run (take_field k) (empty k) (trace (end - length b) b)) (λ v. Ok (u ++ v ∷ [])) x (sym (take_many_message k (take_field k) at end b u m) ∙ e) in
     let v : value k (empty k) (fields (trace 0 b)) ≡ r.0 = ap (value k (empty k)) (sym (fields_place (end - length b) b) ∙ sym (append-nil (fields (trace (end - length b) b)))) ∙ law (trace (end - length b) b) (empty k) r.0 [] r.1 ∙ value_nil k r.0 in
     ap (λ (y : Value k). u ++ y ∷ []) v ∙ ok_is (u ++ r.0 ∷ []) x r.2
-many_message k m law at end p u x e = append-nil u ∙ ok_is u x (sym (put_many_short k (take_field k) at end p u m tt) ∙ e)
+many_message k m law at end p u x e = append-nil u ∙ ok_is u x (sym (take_many_short k (take_field k) at end p u m tt) ∙ e)
 
 -- what a packed payload gains
 packed_gives : (w : Format) (at : ℕ) (r : Result (List (NumberValue w)) Reason) (u x : List (NumberValue w)) → (at_place at r >>= λ ns. Ok (u ++ ns)) ≡ Ok x → u ++ ok_or_none r ≡ x
@@ -201,24 +201,24 @@ packed_gives w at (Ok ns) u x e = ok_is (u ++ ns) x e
 packed_gives w at (Err r) u x e = absurd cc
 
 -- what an occurrence of repeated numbers gains
-numbers_give : (w : Format) (at : ℕ) (p : Payload) (u x : List (NumberValue w)) → put_numbers w at p u ≡ Ok x → u ++ numbers_of w p ≡ x
+numbers_give : (w : Format) (at : ℕ) (p : Payload) (u x : List (NumberValue w)) → more_numbers w at p u ≡ Ok x → u ++ numbers_of w p ≡ x
 numbers_give w at (Varint n) u x e = ok_is _ x e
 numbers_give w at (Long b) u x e = packed_gives w at (packed w b) u x e
 numbers_give w at p u x e = append-nil u ∙ ok_is u x e
 
 -- of eight-byte values
-fixed_give : (at : ℕ) (p : Payload) (u x : List ℕ) → put_fixed at p u ≡ Ok x → u ++ fixed_of p ≡ x
+fixed_give : (at : ℕ) (p : Payload) (u x : List ℕ) → more_fixed at p u ≡ Ok x → u ++ fixed_of p ≡ x
 fixed_give at (Eight b) u x e = ok_is _ x e
 fixed_give at (Long b) u x e = (checked_ok (length b % 8 == 0) (u ++ packed_fixed b) x (fault_at at PackedLength) e).1
 fixed_give at p u x e = append-nil u ∙ ok_is u x e
 
 -- of bytes
-bytes_give : (p : Payload) (u x : List (List ℕ)) → (let r : Result (List (List ℕ)) Fault = Ok (put_bytes p u) in r ≡ Ok x) → u ++ texts_of p ≡ x
+bytes_give : (p : Payload) (u x : List (List ℕ)) → (let r : Result (List (List ℕ)) Fault = Ok (more_bytes p u) in r ≡ Ok x) → u ++ texts_of p ≡ x
 bytes_give (Long b) u x e = ok_is _ x e
 bytes_give p u x e = append-nil u ∙ ok_is u x e
 
 -- and of texts
-texts_give : (at : ℕ) (p : Payload) (u x : List (List ℕ)) → put_texts at p u ≡ Ok x → u ++ texts_of p ≡ x
+texts_give : (at : ℕ) (p : Payload) (u x : List (List ℕ)) → more_texts at p u ≡ Ok x → u ++ texts_of p ≡ x
 texts_give at (Long b) u x e =
     let r = bind_ok (text_of at b) (λ (t : List ℕ). Ok (u ++ t ∷ [])) x e in
     ap (λ (t : List ℕ). u ++ t ∷ []) (checked_ok (is_utf8 b) b r.0 (fault_at at NotUtf8) r.1).1 ∙ ok_is (u ++ r.0 ∷ []) x r.2
@@ -229,7 +229,7 @@ fold_many : {A : Type 0} (g : Payload → List A) (p : Payload) (ps : List Paylo
 fold_many g p ps u x e = sym (append_assoc u (g p) (flat_map g ps)) ∙ ap (λ y. y ++ flat_map g ps) e
 
 -- a repeated row of any shape, a payload at a time
-many_step : (k : Shape) → Law k → (at end : ℕ) (p : Payload) (ps : List Payload) (u x : List (Value k)) → put_many k (take_field k) at end p u ≡ Ok x
+many_step : (k : Shape) → Law k → (at end : ℕ) (p : Payload) (ps : List Payload) (u x : List (Value k)) → take_many k (take_field k) at end p u ≡ Ok x
     → u ++ many_value k (value k) (p ∷ ps) ≡ x ++ many_value k (value k) ps
 many_step (Number w) law at end p ps u x e = fold_many (numbers_of w) p ps u x (numbers_give w at p u x e)
 many_step (Index T entry) law at end p ps u x e = fold_many (numbers_of I32) p ps u x (numbers_give I32 at p u x e)
@@ -244,11 +244,11 @@ many_step k law at end p ps u x e = fold_many (messages_of (value k (empty k))) 
 
 -- a singular row and the rows behind it, a field at a time
 one_row : (n : ℕ) (k rest : Shape) → Law k → Step rest → (t : Bool) (at end : ℕ) (f : Field) (u v : Value k × Value rest) (fs : List Field)
-    → cond t (put_one k (take_field k) at end f.payload u.0 >>= λ x. Ok (x, u.1)) (take_field rest at end f u.1 >>= λ x. Ok (u.0, x)) ≡ Ok v
+    → cond t (take_one k (take_field k) at end f.payload u.0 >>= λ x. Ok (x, u.1)) (take_field rest at end f u.1 >>= λ x. Ok (u.0, x)) ≡ Ok v
     → (let a : Value k × Value rest = (one_value k (value k) (cond t (f.payload ∷ of_number n fs) (of_number n fs)) u.0, value rest u.1 (cond t (others n fs) (f ∷ others n fs))) in
     let b : Value k × Value rest = (one_value k (value k) (of_number n fs) v.0, value rest v.1 (others n fs)) in a ≡ b)
 one_row n k rest law step true at end f u v fs e =
-    let r = bind_ok (put_one k (take_field k) at end f.payload u.0) (λ x. Ok (x, u.1)) v e in
+    let r = bind_ok (take_one k (take_field k) at end f.payload u.0) (λ x. Ok (x, u.1)) v e in
     let p = ok_is (r.0, u.1) v r.2 in
     ap (λ (y : Value k). let q : Value k × Value rest = (y, value rest u.1 (others n fs)) in q) (one_step k law at end f.payload (of_number n fs) u.0 r.0 r.1)
     ∙ ap (λ (y : Value k × Value rest). let q : Value k × Value rest = (one_value k (value k) (of_number n fs) y.0, value rest y.1 (others n fs)) in q) p
@@ -260,11 +260,11 @@ one_row n k rest law step false at end f u v fs e =
 
 -- a repeated row and the rows behind it, a field at a time
 many_row : (n : ℕ) (k rest : Shape) → Law k → Step rest → (t : Bool) (at end : ℕ) (f : Field) (u v : List (Value k) × Value rest) (fs : List Field)
-    → cond t (put_many k (take_field k) at end f.payload u.0 >>= λ x. Ok (x, u.1)) (take_field rest at end f u.1 >>= λ x. Ok (u.0, x)) ≡ Ok v
+    → cond t (take_many k (take_field k) at end f.payload u.0 >>= λ x. Ok (x, u.1)) (take_field rest at end f u.1 >>= λ x. Ok (u.0, x)) ≡ Ok v
     → (let a : List (Value k) × Value rest = (u.0 ++ many_value k (value k) (cond t (f.payload ∷ of_number n fs) (of_number n fs)), value rest u.1 (cond t (others n fs) (f ∷ others n fs))) in
     let b : List (Value k) × Value rest = (v.0 ++ many_value k (value k) (of_number n fs), value rest v.1 (others n fs)) in a ≡ b)
 many_row n k rest law step true at end f u v fs e =
-    let r = bind_ok (put_many k (take_field k) at end f.payload u.0) (λ x. Ok (x, u.1)) v e in
+    let r = bind_ok (take_many k (take_field k) at end f.payload u.0) (λ x. Ok (x, u.1)) v e in
     let p = ok_is (r.0, u.1) v r.2 in
     ap (λ (y : List (Value k)). let q : List (Value k) × Value rest = (y, value rest u.1 (others n fs)) in q) (many_step k law at end f.payload (of_number n fs) u.0 r.0 r.1)
     ∙ ap (λ (y : List (Value k) × Value rest). let q : List (Value k) × Value rest = (y.0 ++ many_value k (value k) (of_number n fs), value rest y.1 (others n fs)) in q) p

@@ -6,26 +6,26 @@ use Rattle.schema.specs.Field.{Payload, Long, Field}
 use Rattle.schema.specs.Fault.{Reason, Fault, fault_at}
 use Rattle.schema.specs.Steps.{◌>>=◌, varint_at, trace}
 use Rattle.schema.specs.Shape.{Shape, End, One, Many, Format, NumberValue, Value, IsMessage, empty, number_from}
-use Rattle.schema.specs.Merge.{run, put_one, put_many, packed_upto, packed, put_packed, in_packed, packed_reason, at_place, fixed_upto, packed_fixed}
+use Rattle.schema.specs.Merge.{run, take_one, take_many, packed_upto, packed, more_packed, in_packed, packed_reason, at_place, fixed_upto, packed_fixed}
 use Rattle.schema_laws.proofs.Sizes.{Leaves, varint_leaves, number_size}
 
 -- ---- messages
 
 -- an occurrence of a singular message is read over the value so far
-pub put_one_message : (s : Shape) (inside : ℕ → ℕ → Field → Value s → Result (Value s) Fault) (at end : ℕ) (b : List ℕ) (v : Value s) → IsMessage s
-    → put_one s inside at end (Long b) v ≡ run inside v (trace (end - length b) b)
-put_one_message End inside at end b v m = refl
-put_one_message (One n k rest) inside at end b v m = refl
-put_one_message (Many n k rest) inside at end b v m = refl
-put_one_message s inside at end b v m = absurd m
+pub take_one_message : (s : Shape) (inside : ℕ → ℕ → Field → Value s → Result (Value s) Fault) (at end : ℕ) (b : List ℕ) (v : Value s) → IsMessage s
+    → take_one s inside at end (Long b) v ≡ run inside v (trace (end - length b) b)
+take_one_message End inside at end b v m = refl
+take_one_message (One n k rest) inside at end b v m = refl
+take_one_message (Many n k rest) inside at end b v m = refl
+take_one_message s inside at end b v m = absurd m
 
 -- and of a repeated one, over its empty value
-pub put_many_message : (s : Shape) (inside : ℕ → ℕ → Field → Value s → Result (Value s) Fault) (at end : ℕ) (b : List ℕ) (vs : List (Value s)) → IsMessage s
-    → put_many s inside at end (Long b) vs ≡ (run inside (empty s) (trace (end - length b) b) >>= λ v. Ok (vs ++ v ∷ []))
-put_many_message End inside at end b v m = refl
-put_many_message (One n k rest) inside at end b v m = refl
-put_many_message (Many n k rest) inside at end b v m = refl
-put_many_message s inside at end b v m = absurd m
+pub take_many_message : (s : Shape) (inside : ℕ → ℕ → Field → Value s → Result (Value s) Fault) (at end : ℕ) (b : List ℕ) (vs : List (Value s)) → IsMessage s
+    → take_many s inside at end (Long b) vs ≡ (run inside (empty s) (trace (end - length b) b) >>= λ v. Ok (vs ++ v ∷ []))
+take_many_message End inside at end b v m = refl
+take_many_message (One n k rest) inside at end b v m = refl
+take_many_message (Many n k rest) inside at end b v m = refl
+take_many_message s inside at end b v m = absurd m
 
 -- a payload that is not behind a length
 abbrev pub IsShort : Payload → Type 0
@@ -33,22 +33,22 @@ IsShort (Long b) = ⊥
 IsShort payload = Unit {0}
 
 -- such a payload is skipped by a message
-pub put_one_short : (s : Shape) (inside : ℕ → ℕ → Field → Value s → Result (Value s) Fault) (at end : ℕ) (p : Payload) (v : Value s) → IsMessage s → IsShort p
-    → put_one s inside at end p v ≡ Ok v
-put_one_short s inside at end (Long b) v m h = absurd h
-put_one_short End inside at end p v m h = refl
-put_one_short (One n k rest) inside at end p v m h = refl
-put_one_short (Many n k rest) inside at end p v m h = refl
-put_one_short s inside at end p v m h = absurd m
+pub take_one_short : (s : Shape) (inside : ℕ → ℕ → Field → Value s → Result (Value s) Fault) (at end : ℕ) (p : Payload) (v : Value s) → IsMessage s → IsShort p
+    → take_one s inside at end p v ≡ Ok v
+take_one_short s inside at end (Long b) v m h = absurd h
+take_one_short End inside at end p v m h = refl
+take_one_short (One n k rest) inside at end p v m h = refl
+take_one_short (Many n k rest) inside at end p v m h = refl
+take_one_short s inside at end p v m h = absurd m
 
 -- and by a repeated one
-pub put_many_short : (s : Shape) (inside : ℕ → ℕ → Field → Value s → Result (Value s) Fault) (at end : ℕ) (p : Payload) (vs : List (Value s)) → IsMessage s → IsShort p
-    → put_many s inside at end p vs ≡ Ok vs
-put_many_short s inside at end (Long b) v m h = absurd h
-put_many_short End inside at end p v m h = refl
-put_many_short (One n k rest) inside at end p v m h = refl
-put_many_short (Many n k rest) inside at end p v m h = refl
-put_many_short s inside at end p v m h = absurd m
+pub take_many_short : (s : Shape) (inside : ℕ → ℕ → Field → Value s → Result (Value s) Fault) (at end : ℕ) (p : Payload) (vs : List (Value s)) → IsMessage s → IsShort p
+    → take_many s inside at end p vs ≡ Ok vs
+take_many_short s inside at end (Long b) v m h = absurd h
+take_many_short End inside at end p v m h = refl
+take_many_short (One n k rest) inside at end p v m h = refl
+take_many_short (Many n k rest) inside at end p v m h = refl
+take_many_short s inside at end p v m h = absurd m
 
 -- ---- packed numbers
 
@@ -96,20 +96,20 @@ regroup w at vs v (Err e) = refl
 
 -- the same behind the numbers so far, as a loop over the payload meets it
 pub packed_goes_on : (w : Format) (at : ℕ) (bytes after : List ℕ) (n : ℕ) (vs : List (NumberValue w)) → 0 < length bytes → varint_at 9 bytes ≡ Ok (n, after)
-    → put_packed w at bytes vs ≡ put_packed w at after (vs ++ number_from w n ∷ [])
+    → more_packed w at bytes vs ≡ more_packed w at after (vs ++ number_from w n ∷ [])
 packed_goes_on w at bytes after n vs some e =
     let a : packed w bytes ≡ (packed w after >>= λ ns. Ok (number_from w n ∷ ns)) = packed_is w bytes some ∙ ap (packed_by w (packed w)) e in
     ap (λ (r : Result (List (NumberValue w)) Reason). at_place at r >>= λ ns. Ok (vs ++ ns)) a ∙ regroup w at vs (number_from w n) (packed w after)
 
 -- a bad varint at the front is the fault
 pub packed_fails : (w : Format) (at : ℕ) (bytes : List ℕ) (r : Reason) (vs : List (NumberValue w)) → 0 < length bytes → varint_at 9 bytes ≡ Err r
-    → put_packed w at bytes vs ≡ Err (fault_at at (packed_reason r))
+    → more_packed w at bytes vs ≡ Err (fault_at at (packed_reason r))
 packed_fails w at bytes r vs some e =
     let a : packed w bytes ≡ Err (packed_reason r) = packed_is w bytes some ∙ ap (packed_by w (packed w)) e in
     ap (λ (r : Result (List (NumberValue w)) Reason). at_place at r >>= λ ns. Ok (vs ++ ns)) a
 
 -- at the end nothing more comes
-pub packed_ends : (w : Format) (at : ℕ) (bytes : List ℕ) (vs : List (NumberValue w)) → length bytes ≡ 0 → put_packed w at bytes vs ≡ Ok vs
+pub packed_ends : (w : Format) (at : ℕ) (bytes : List ℕ) (vs : List (NumberValue w)) → length bytes ≡ 0 → more_packed w at bytes vs ≡ Ok vs
 unfolding packed_upto
 packed_ends w at [] vs e = ap (λ (t : List (NumberValue w)). Ok t) (append-nil vs)
 packed_ends w at (b ∷ bytes) vs e = absurd (omega arith)

@@ -5,7 +5,8 @@ ghost use Rattle.schema.specs.Shape.{IsMessage, Shape, Value, empty};
 ghost use Rattle.schema.specs.Spell.{spell, spell_onto, len_onto};
 ghost use Rattle.schema.specs.Value.{joined};
 
-/// Rows that are appended one after the other are the spelling, and the lengths of the rows are its length.
+/// Rows that are appended one after the other are the spelling, and the lengths of the rows add up to its length. That a
+/// program computes the length of a row right is a clause of that program.
 pub fn spelling_has_its_length()
     ensures appended { (s : Shape) → (out : List ℕ) → (v : Value s) → spell_onto s out v ≡ out ++ spell s v }
     ensures counted { (s : Shape) → (len : ℕ) → (v : Value s) → len_onto s len v ≡ len + length (spell s v) }
@@ -30,6 +31,8 @@ pub fn read_values_fit()
         → Each (λ b. b < 256) bytes → 16 * length bytes < 2 ^ 64 → merge s (empty s) base bytes ≡ Ok v → length (spell s v) ≤ 16 * length bytes }
     ensures parts { (s : Shape) → IsMessage s → Lawful s → (parts : List Part) → (v : Value s)
         → Each (λ b. b < 256) (joined parts) → 16 * length (joined parts) < 2 ^ 64 → merge_all s (empty s) parts ≡ Ok v → Fits s v }
+    ensures parts_short { (s : Shape) → (parts : List Part) → (v : Value s)
+        → Each (λ b. b < 256) (joined parts) → 16 * length (joined parts) < 2 ^ 64 → merge_all s (empty s) parts ≡ Ok v → length (spell s v) ≤ 16 * length (joined parts) }
 {}
 
 /// What is read of bytes is read again of its spelling, wherever either begins.

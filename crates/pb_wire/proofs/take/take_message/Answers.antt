@@ -1,10 +1,10 @@
 use Rattle.schema.specs.Merge.{take_field}
-use Rattle.schema_laws.proofs.Rows.{put_one_message}
-use Rattle.pb_wire.proofs.Occurrences.{put_one_other}
+use Rattle.schema_laws.proofs.Rows.{take_one_message}
+use Rattle.pb_wire.proofs.Occurrences.{take_one_other}
 use Rattle.pb_wire.proofs.take.take_message.Goals as goal
 
 pub returns-in-Bytes : goal.returns-in-Bytes
-returns-in-Bytes g c = rw (c.in-Bytes.is, put_one_message g.T.Wire.shape (take_field g.T.Wire.shape) c.args.field.now.at c.args.field.now.end c.in-Bytes.bytes.now (g.T.Wire.view c.args.slot.now) g.met.T.Wire.message) c.merge.ensures
+returns-in-Bytes g c = rw (c.in-Bytes.is, take_one_message g.T.Wire.shape (take_field g.T.Wire.shape) c.args.field.now.at c.args.field.now.end c.in-Bytes.bytes.now (g.T.Wire.view c.args.slot.now) g.met.T.Wire.message) c.merge.ensures
 
 pub returns-in_default : goal.returns-in_default
-returns-in_default g c = put_one_other g.T.Wire.shape (take_field g.T.Wire.shape) c.args.field.now.at c.args.field.now.end c.args.field.now.payload (g.T.Wire.view c.args.slot.now) g.met.T.Wire.message c.in_default.not-Bytes
+returns-in_default g c = take_one_other g.T.Wire.shape (take_field g.T.Wire.shape) c.args.field.now.at c.args.field.now.end c.args.field.now.payload (g.T.Wire.view c.args.slot.now) g.met.T.Wire.message c.in_default.not-Bytes
