@@ -86,7 +86,7 @@ line_of NoMemory = no_memory_text
 abbrev pub IsStatus : ℕ → Type 0
 IsStatus status = IsTrue (list_any (λ known. nat_eq status known) (0 ∷ 1 ∷ 2 ∷ 5 ∷ 6 ∷ 7 ∷ 8 ∷ []))
 
--- what was taken grew by one line, which begins so
+-- what was taken grew by a text that begins so and ends with a line feed
 pub record TookLine (start : List ℕ) (old new : Option (List ℕ)) : Type 0 where
   pub rest : List ℕ
   pub is : new ≡ appended old (start ++ (rest ++ end_of_line))

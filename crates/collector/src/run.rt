@@ -54,7 +54,7 @@ pub fn run_tool<F: Files, O: Sink, E: Sink, M: Seeds>(
     _seeds: &mut M,
 ) -> u8
     // Where the files are told and neither a fault nor want of memory is answered, the status, the files, the text on
-    // `out` and the line on `err` are those of the answer. After 0 nothing is on `err`.
+    // `out` and, where no fault of `err` was counted, the line on `err` are those of the answer. After 0 nothing is on `err`.
     ensures status { IsAnswered result → IfSome (F.told files.old) (λ m. result ≡ (answer (texts_of words.now) m).status) }
     ensures files { IsAnswered result → IfSome (F.told files.old) (λ m.
         F.told files.new ≡ put_files (answer (texts_of words.now) m).files (Some m)) }
@@ -71,7 +71,7 @@ pub fn run_tool<F: Files, O: Sink, E: Sink, M: Seeds>(
     ensures words { result ≡ 1 → IsErr (planned (texts_of words.now)) }
     ensures refused_words { IsErr (planned (texts_of words.now)) → result ≢ 7 → result ≡ 1 }
 
-    // A fault is answered only where a count rose, and its line is on `err`.
+    // A fault is answered only where a count rose. Its line begins so; the name in it is not promised.
     ensures read_fault { result ≡ 6 → Rose (F.faults files.old) (F.faults files.new) }
     ensures write_fault { result ≡ 8 → Rose (F.faults files.old) (F.faults files.new) ⊎ Rose (O.faults out.old) (O.faults out.new) }
     ensures read_line { result ≡ 6 → ¬ (Rose (E.faults err.old) (E.faults err.new)) →

@@ -30,7 +30,7 @@ impl<'a> Checked<'a> {
         self.body
     }
 
-    /// The message. It takes no memory. Its spelling is short enough to be written, and it is read again.
+    /// The message. It takes no memory. Its spelling is short enough to be written, and it fits, so its spelling is read as it.
     pub fn message(&self) -> &Message
         ensures value { message_view result.now ≡ value_of self.now }
         ensures short { length (spell envelope (value_of self.now)) < 2 ^ 62 }

@@ -1,5 +1,6 @@
 //! The outside of the programs: files, what is read, what is written and hashers, as traits. Each has an object in
-//! memory, which tells all that it holds, and an adapter over the system, which tells nothing.
+//! memory, which tells all that it holds. Files, sinks and sources have an adapter over the system too, which tells how
+//! often it has failed and nothing else.
 #![tactic(auto)]
 
 mod disk_files;

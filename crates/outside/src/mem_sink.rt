@@ -4,7 +4,7 @@ ghost use Rattle.std.specs.Prelude.{◌≡◌, Some, []};
 use crate::{Failures, IoFault, Sink};
 use std::alloc::Global;
 
-/// Keeps all that it takes, and takes each piece whole.
+/// Keeps all that it takes.
 #[derive(Drop)]
 pub struct MemSink {
     bytes: Vec<u8>,

@@ -3,7 +3,7 @@ ghost use Rattle.std.specs.Prelude.{◌≡◌, ◌≤◌, Some, [], drop, take, 
 
 use crate::{Failed, Failures, Source};
 
-/// Gives as many bytes at a time as there is room for.
+/// Gives the bytes that it is made with, in order.
 #[derive(Drop)]
 pub struct MemSource {
     bytes: Vec<u8>,

@@ -21,6 +21,12 @@ IsFault NoMemory want = Unit {0}
 IsFault (NotBuilt place) want = want ≡ Err (fault_at place faults.NotBuilt)
 IsFault (Wire f) want = want ≡ Err (fault_view f)
 
+-- memory was not wanting
+abbrev pub TakesNone : {A : Type 0} → Result A ReadFault → Type 0
+TakesNone (Ok a) = Unit {0}
+TakesNone (Err NoMemory) = ⊥
+TakesNone (Err e) = Unit {0}
+
 -- a call that reads answers the value that is wanted, seen by view, or its fault
 abbrev pub Reads : {X Y : Type 0} → (X → Y) → Result X ReadFault → Result Y Fault → Type 0
 Reads view (Ok x) want = want ≡ Ok (view x)

@@ -4,6 +4,7 @@
 mod blob;
 mod fault;
 mod field;
+mod laws;
 mod lengths;
 mod memory;
 mod next;
@@ -27,6 +28,7 @@ mod wire;
 pub use blob::Blob;
 pub use fault::{ReadFault, Reason, WireFault};
 pub use field::{Field, Payload};
+pub use laws::reads_what_is_written;
 pub use lengths::{
     bytes_len, bytes_list_len, fixed_len, fixed_list_len, message_len, messages_len, number_len,
     numbers_len, text_len, text_list_len,

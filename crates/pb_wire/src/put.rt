@@ -36,7 +36,7 @@ pub fn varint_len(value: u64) -> usize
     }
 }
 
-/// Puts the shortest varint at the end; after want of memory a part of it may stand there.
+/// Puts the shortest varint at the end; after want of memory the bytes so far still stand in front.
 #[inline]
 #[tactic(auto, using(schema_laws::proofs::Onto::varint_small, schema_laws::proofs::Onto::varint_onto, crate::proofs::Begins::growing))]
 pub(crate) fn push_varint(out: &mut Blob, value: u64) -> Result<(), NoMemory>
@@ -67,7 +67,7 @@ pub fn put_varint(out: &mut Blob, value: u64) -> Result<(), NoMemory>
     Ok(())
 }
 
-/// Puts a tag, a length and bytes at the end; after want of memory a part of it may stand there.
+/// Puts a tag, a length and bytes at the end; after want of memory the bytes so far still stand in front.
 #[inline]
 #[tactic(auto, using(crate::proofs::Begins::growing), unfolding(schema::specs::Spell::long_field))]
 pub(crate) fn push_long(out: &mut Blob, number: u32, bytes: &[u8]) -> Result<(), NoMemory>
@@ -81,7 +81,7 @@ pub(crate) fn push_long(out: &mut Blob, number: u32, bytes: &[u8]) -> Result<(),
     Ok(())
 }
 
-/// Puts a field at the end; after want of memory a part of it may stand there.
+/// Puts a field at the end; after want of memory the bytes so far still stand in front.
 #[tactic(auto, using(crate::proofs::Begins::growing))]
 fn push_field(out: &mut Blob, number: u32, payload: &Payload<'_>) -> Result<(), NoMemory>
     requires { number < 2 ^ 29 }

@@ -4,7 +4,7 @@ ghost use Rattle.std.specs.Prelude.{◌≡◌, ◌<◌, ◌≤◌, ◌^◌, leng
 ghost use Rattle.schema.specs.Field.{bytes_of};
 ghost use Rattle.schema.specs.Merge.{one_number, one_fixed, one_bytes, one_text, text_of as text_at, take_one, take_many, more_packed, more_numbers, more_fixed, more_packed_fixed, more_bytes, more_texts, packed_reason as packed_reason_of, take_field};
 ghost use Rattle.schema.specs.Shape.{fits_one};
-ghost use Rattle.pb_wire.specs.Answers.{Reads, Took};
+ghost use Rattle.pb_wire.specs.Answers.{Reads, TakesNone, Took};
 ghost use Rattle.pb_wire.specs.RowTypes.{shape_of, RefusesOne, RefusesMany};
 ghost use Rattle.pb_wire.specs.View.{payload_view, reason_view};
 
@@ -14,10 +14,11 @@ use crate::{
 };
 use std::alloc::Global;
 
-/// Takes a singular number: the last occurrence wins.
+/// Takes a singular number: the last occurrence wins. It takes no memory.
 #[inline]
 pub fn take_number<N: Number>(slot: &mut N, field: &Field<'_>) -> Result<(), ReadFault>
-    ensures { Took (N.value slot.new) result (Ok (one_number N.format (payload_view field.now.payload) (N.value slot.old))) }
+    ensures taken { Took (N.value slot.new) result (Ok (one_number N.format (payload_view field.now.payload) (N.value slot.old))) }
+    ensures no_memory { TakesNone result }
 {
     if let Payload::Varint(varint) = field.payload {
         *slot = N::from_varint(varint);
@@ -25,10 +26,11 @@ pub fn take_number<N: Number>(slot: &mut N, field: &Field<'_>) -> Result<(), Rea
     Ok(())
 }
 
-/// Takes a singular eight-byte number, whose low byte comes first.
+/// Takes a singular eight-byte number, whose low byte comes first. It takes no memory.
 #[inline]
 pub fn take_fixed(slot: &mut u64, field: &Field<'_>) -> Result<(), ReadFault>
-    ensures { Took slot.new result (Ok (one_fixed (payload_view field.now.payload) slot.old)) }
+    ensures taken { Took slot.new result (Ok (one_fixed (payload_view field.now.payload) slot.old)) }
+    ensures no_memory { TakesNone result }
 {
     if let Payload::Fixed64(bytes) = field.payload {
         *slot = u64::from_le_bytes(bytes);
@@ -236,10 +238,11 @@ fn has_type(row: RowType, payload: &Payload<'_>) -> bool
     }
 }
 
-/// Refuses an occurrence that fits a singular row which this program does not read yet.
+/// Refuses an occurrence that fits a singular row which this program does not read yet. It takes no memory.
 #[inline]
 pub fn refuse_one(row: RowType, field: &Field<'_>) -> Result<(), ReadFault>
-    ensures { RefusesOne row field.now.at (payload_view field.now.payload) result }
+    ensures refused { RefusesOne row field.now.at (payload_view field.now.payload) result }
+    ensures no_memory { TakesNone result }
 {
     if has_type(row, &field.payload) {
         return Err(ReadFault::NotBuilt { place: field.at });
@@ -247,10 +250,11 @@ pub fn refuse_one(row: RowType, field: &Field<'_>) -> Result<(), ReadFault>
     Ok(())
 }
 
-/// Refuses an occurrence that fits a repeated row which this program does not read yet.
+/// Refuses an occurrence that fits a repeated row which this program does not read yet. It takes no memory.
 #[inline]
 pub fn refuse_many(row: RowType, field: &Field<'_>) -> Result<(), ReadFault>
-    ensures { RefusesMany row field.now.at (payload_view field.now.payload) result }
+    ensures refused { RefusesMany row field.now.at (payload_view field.now.payload) result }
+    ensures no_memory { TakesNone result }
 {
     if has_type(row, &field.payload) || has_type(RowType::Bytes, &field.payload) {
         return Err(ReadFault::NotBuilt { place: field.at });

@@ -34,7 +34,7 @@ pub trait Wire: Drop {
         requires { len_onto shape 0 (view self.now) < 2 ^ 63 }
         ensures { result ≡ len_onto shape 0 (view self.now) };
 
-    /// Puts the rows' canonical spelling at the end; after want of memory a part of it may stand there.
+    /// Puts the rows' canonical spelling at the end; after want of memory the bytes so far still stand in front.
     fn put_rows(&self, out: &mut Blob) -> Result<(), NoMemory>
         requires { len_onto shape 0 (view self.now) < 2 ^ 63 }
         ensures ok { OnOk result (out.new ≡ spell_onto shape out.old (view self.now)) }
