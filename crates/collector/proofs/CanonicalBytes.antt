@@ -71,11 +71,15 @@ canonical_accepted m fits le =
     let t : nat_lt message_limit (length (canonical_bytes (meaning_of m))) ≡ false = le-ltb _ _ le in
     rw t (ap tested (reads_back envelope tt (lawful_from envelope refl) (canonical (meaning_of m)) (canonical_fits m fits) 0))
 
--- what is answered of the canonical bytes is accepted, with the same meaning
-pub answered_accepted : (m : Message) → Fits envelope m → (r : Result (List ℕ) BuildFault) → IfOk r (λ b. canon_of m ≡ Ok b) → IfOk r (λ b. message_of b ≡ Ok (canonical (meaning_of m)))
-answered_accepted m fits (Ok b) h =
-    let p = within (canonical_bytes (meaning_of m)) b h in
+-- what the canonical bytes are, within the limit, is accepted with the same meaning
+pub canonical_text_accepted : (m : Message) → Fits envelope m → (b : List ℕ) → canon_of m ≡ Ok b → message_of b ≡ Ok (canonical (meaning_of m))
+canonical_text_accepted m fits b e =
+    let p = within (canonical_bytes (meaning_of m)) b e in
     subst (λ (x : List ℕ). message_of x ≡ Ok (canonical (meaning_of m))) p.1 (canonical_accepted m fits p.0)
+
+-- and so is what is answered of them
+pub answered_accepted : (m : Message) → Fits envelope m → (r : Result (List ℕ) BuildFault) → IfOk r (λ b. canon_of m ≡ Ok b) → IfOk r (λ b. message_of b ≡ Ok (canonical (meaning_of m)))
+answered_accepted m fits (Ok b) h = canonical_text_accepted m fits b h
 answered_accepted m fits (Err f) h = tt
 
 -- the two parts are the canonical bytes

@@ -1,8 +1,9 @@
 -- The statuses, and the lines that are printed.
-use Rattle.std.specs.Prelude.{◌≡◌, ℕ, List, [], ◌∷◌, ◌++◌, codes, Option, nat_eq, IsTrue}
+use Rattle.std.specs.Prelude.{◌≡◌, ℕ, List, [], ◌∷◌, ◌++◌, codes, Option, Result, Ok, Err, nat_eq, IsTrue}
 use Rattle.std.specs.List.{list_any}
 use Rattle.std.specs.Fmt.{decimal}
 use Rattle.outside.specs.Told.{appended}
+use Rattle.collector.specs.declared.words.ToolPlan.{ToolPlan}
 use Rattle.collector.specs.declared.words.WordReason.{WordReason}
 use Rattle.collector.specs.declared.words.WordReason.TheVariants.{NoCommand, UnknownCommand, MissingWord, ExtraWord}
 use Rattle.collector.specs.declared.words.WordRefusal.{WordRefusal}
@@ -81,6 +82,11 @@ line_of (Refused refusal) = refusal_line refusal
 line_of (Read name) = read_text name
 line_of (Write name) = write_text name
 line_of NoMemory = no_memory_text
+
+-- the line of refused words
+abbrev pub words_line : Result ToolPlan WordRefusal → List ℕ
+words_line (Ok plan) = []
+words_line (Err refusal) = line_of (stop_of_words refusal)
 
 -- the statuses that a run may answer
 abbrev pub IsStatus : ℕ → Type 0

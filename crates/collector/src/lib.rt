@@ -4,6 +4,7 @@
 mod canon_command;
 mod canonical;
 mod deliver;
+mod laws;
 mod lines;
 mod output;
 mod reading;
@@ -15,6 +16,7 @@ mod work;
 
 pub use canonical::{BuildFault, canon};
 pub use deliver::write_output;
+pub use laws::canonical_bytes_are_accepted;
 pub use output::{Output, Writes};
 pub use report::tell;
 pub use run::run_tool;

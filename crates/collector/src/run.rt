@@ -3,7 +3,7 @@ ghost use Rattle.std.specs.Prelude.{◌≡◌, ◌≢◌, ◌<◌, ◌⊎◌, So
 ghost use Rattle.outside.specs.Causes.{Rose};
 ghost use Rattle.outside.specs.Told.{appended};
 ghost use Rattle.collector.specs.Plan.{planned, texts_of};
-ghost use Rattle.collector.specs.Lines.{IsStatus, TookLine};
+ghost use Rattle.collector.specs.Lines.{IsStatus, TookLine, words_line};
 ghost use Rattle.collector.specs.Answer.{outcome, answer};
 ghost use Rattle.collector.specs.Causes.{IsStop, IsNoFault, WordsCause, FaultCause};
 ghost use Rattle.collector.specs.Delivery.{seen, put_files, Delivered, FailedDelivery, PartDelivered, LeftAtWrite, Unchanged, Untouched, IsAnswered};
@@ -70,6 +70,8 @@ pub fn run_tool<F: Files, O: Sink, E: Sink, M: Seeds>(
     // The words are refused or accepted whether or not the files are told.
     ensures words { result ≡ 1 → IsErr (planned (texts_of words.now)) }
     ensures refused_words { IsErr (planned (texts_of words.now)) → result ≢ 7 → result ≡ 1 }
+    ensures words_line { result ≡ 1 → ¬ (Rose (E.faults err.old) (E.faults err.new)) →
+        E.taken err.new ≡ appended (E.taken err.old) (words_line (planned (texts_of words.now))) }
 
     // A fault is answered only where a count rose. Its line begins so; the name in it is not promised.
     ensures read_fault { result ≡ 6 → Rose (F.faults files.old) (F.faults files.new) }
