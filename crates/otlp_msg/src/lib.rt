@@ -17,6 +17,8 @@ mod refusal;
 mod resource_profiles;
 mod scope_profiles;
 mod stack;
+#[cfg(test)]
+mod tests;
 
 pub use attribute::Attr;
 pub use checked::Checked;
