@@ -8,14 +8,14 @@ use std::alloc::Global;
 use std::marker::Model;
 
 /// Bytes of a message, and where they begin in the file.
-#[derive(Clone, Copy, Debug)]
+#[derive(Clone, Copy)]
 pub struct Piece<'a> {
     pub bytes: &'a [u8],
     pub base: u64,
 }
 
 /// The occurrences of one singular message in order, seen as the list of their bytes and places.
-#[derive(Debug, Drop)]
+#[derive(Drop)]
 pub struct Pieces<'a> {
     items: Vec<Piece<'a>>,
 }

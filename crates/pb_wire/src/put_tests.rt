@@ -7,6 +7,18 @@ use std::alloc::Global;
 use std::test::Fail;
 
 #[test]
+fn keeps_bytes_and_texts(rt: HostRuntime) -> Result<(), Fail> {
+    let mut bytes = Blob::with_room(rt.alloc(), 4)?;
+    bytes.append(b"abc")?;
+    bytes.push(100)?;
+    assert_eq!(rt; bytes.as_slice(), b"abcd".as_slice());
+    let mut text = Text::copy_of(rt.alloc(), "ab")?;
+    text.append("cd")?;
+    assert_eq!(rt; text.as_str(), "abcd");
+    Ok(())
+}
+
+#[test]
 fn puts_varints(rt: HostRuntime) -> Result<(), Fail> {
     let mut out = Blob::begin(rt.alloc());
     put_varint(&mut out, 150)?;
@@ -37,7 +49,7 @@ fn puts_rows(rt: HostRuntime) -> Result<(), Fail> {
     put_number(&mut out, 2, 0u64)?;
     put_fixed(&mut out, 3, 258)?;
     put_bytes(&mut out, 4, &Blob::copy_of(rt.alloc(), b"ab")?)?;
-    put_text(&mut out, 5, &crate::Text::begin(rt.alloc()))?;
+    put_text(&mut out, 5, &Text::begin(rt.alloc()))?;
     assert_eq!(rt;
         out.as_slice(),
         b"\x08\xff\xff\xff\xff\xff\xff\xff\xff\xff\x01\x19\x02\x01\0\0\0\0\0\0\x22\x02ab".as_slice()
@@ -51,7 +63,7 @@ fn make_leaf(alloc: Global) -> Result<Leaf, NoMemory>
 {
     Ok(Leaf {
         count: 150,
-        name: crate::Text::copy_of(alloc, "testing")?,
+        name: Text::copy_of(alloc, "testing")?,
     })
 }
 
@@ -119,8 +131,8 @@ fn puts_lists(rt: HostRuntime) -> Result<(), Fail> {
     let mut payloads = Repeated::begin(rt.alloc());
     payloads.add(Blob::begin(rt.alloc()))?;
     let mut names = Repeated::begin(rt.alloc());
-    names.add(crate::Text::begin(rt.alloc()))?;
-    names.add(crate::Text::copy_of(rt.alloc(), "a")?)?;
+    names.add(Text::begin(rt.alloc()))?;
+    names.add(Text::copy_of(rt.alloc(), "a")?)?;
     let mut out = Blob::begin(rt.alloc());
     put_bytes_list(&mut out, 1, &payloads)?;
     put_text_list(&mut out, 2, &names)?;

@@ -218,7 +218,7 @@ pub fn add_text(
 }
 
 /// The wire type of a row's shape.
-#[derive(Clone, Copy, Debug, PartialEq, Eq)]
+#[derive(Clone, Copy)]
 pub enum RowType {
     Varint,
     Fixed64,

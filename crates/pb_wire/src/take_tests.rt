@@ -159,12 +159,12 @@ fn refuses_rows(rt: HostRuntime) {
         assert_eq!(rt;
             refuse_one(row, &field),
             if one { refused } else { skipped },
-            "{row:?} {payload:?}"
+            "{payload:?}"
         );
         assert_eq!(rt;
             refuse_many(row, &field),
             if many { refused } else { skipped },
-            "{row:?} {payload:?}"
+            "{payload:?}"
         );
     }
 }
