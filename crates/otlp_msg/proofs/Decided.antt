@@ -38,8 +38,9 @@ zero_to : (texts : List (List ℕ)) → BeginsWithZero texts → begins_with_zer
 zero_to [] z = refl
 zero_to (text ∷ texts) z = ap (λ (t : List ℕ). length t == 0) z
 
--- ---- the answer, of whether the size was wrong, the bytes' number and what was read
+-- ---- the answer, by whether there are too many bytes, their number and what was read of them
 
+-- the answer
 abbrev answer : Bool → ℕ → Read → Answer
 answer t n r = cond t (Err (Size n)) (tested r)
 
@@ -110,16 +111,19 @@ why_to t n r NoMemory w = absurd w
 
 -- ---- the bytes of a file
 
+-- whether there are too many bytes
 abbrev too_many : List ℕ → Bool
 too_many body = nat_lt message_limit (length body)
 
+-- what is read of them
 abbrev read_of : List ℕ → Read
 read_of body = merge envelope (empty envelope) 0 body
 
--- what the answer says of the bytes
+-- a refusal of the bytes has its reason
 from_answer : (body : List ℕ) (why : Refusal) → message_of body ≡ Err why → Why (too_many body) (length body) (read_of body) why
 from_answer body why e = why_from (too_many body) (length body) (read_of body) why e
 
+-- and the other way
 to_answer : (body : List ℕ) (why : Refusal) → Why (too_many body) (length body) (read_of body) why → message_of body ≡ Err why
 to_answer body why w = why_to (too_many body) (length body) (read_of body) why w
 
@@ -127,6 +131,7 @@ to_answer body why w = why_to (too_many body) (length body) (read_of body) why w
 pub size_from : (body : List ℕ) (len : ℕ) → message_of body ≡ Err (Size len) → (message_limit < length body) × (len ≡ length body)
 size_from body len e = let w = from_answer body (Size len) e in (ltb-true message_limit (length body) w.0, w.1)
 
+-- and the other way
 pub size_to : (body : List ℕ) (len : ℕ) → (message_limit < length body) × (len ≡ length body) → message_of body ≡ Err (Size len)
 size_to body len h = to_answer body (Size len) (lt-ltb message_limit (length body) h.0, h.1)
 
@@ -136,6 +141,7 @@ wire_from body f e =
     let w = from_answer body (Wire f) e in
     (ltb-false message_limit (length body) w.0, merge_err envelope (empty envelope) 0 body (fault_view f) w.1)
 
+-- and the other way
 pub wire_to : (body : List ℕ) (f : WireFault) → (length body ≤ message_limit) × HasFault envelope 0 body (fault_view f) → message_of body ≡ Err (Wire f)
 wire_to body f h = to_answer body (Wire f) (le-ltb message_limit (length body) h.0, merge_fault envelope (empty envelope) 0 body (fault_view f) h.1)
 
@@ -145,6 +151,7 @@ not_built_from body place e =
     let w = from_answer body (NotBuilt place) e in
     (ltb-false message_limit (length body) w.0, merge_err envelope (empty envelope) 0 body (fault_at place faults.NotBuilt) w.1)
 
+-- and the other way
 pub not_built_to : (body : List ℕ) (place : ℕ) → (length body ≤ message_limit) × HasFault envelope 0 body (fault_at place faults.NotBuilt) → message_of body ≡ Err (NotBuilt place)
 not_built_to body place h =
     to_answer body (NotBuilt place) (le-ltb message_limit (length body) h.0, merge_fault envelope (empty envelope) 0 body (fault_at place faults.NotBuilt) h.1)
@@ -168,6 +175,7 @@ fails : (t : Bool) → (t ≡ true → ⊥) → t ≡ false
 fails true h = absurd (h refl)
 fails false h = refl
 
+-- and the other way
 pub zero_entry_to : (body : List ℕ) (table : TableKind) → (table ≡ String) × IsNotZero body → message_of body ≡ Err (ZeroEntry table)
 zero_entry_to body table h =
     let z = h.1 in
@@ -198,6 +206,7 @@ tested_again body m e =
     let p = accepted_read body m e in
     sym (sized (too_many body) (length body) (read_of body) (Ok m) (le-ltb message_limit (length body) p.0) p.1) ∙ e
 
+-- a message that is the answer was accepted
 pub accepted_from : (body : List ℕ) (m : Message) → message_of body ≡ Ok m → IsAccepted body m
 accepted_from body m e =
     let p = accepted_read body m e in
@@ -211,6 +220,7 @@ accepted_from body m e =
 passes : (t : Bool) (m : Message) (why : Refusal) → t ≡ true → (let r : Answer = cond t (Ok m) (Err why) in r ≡ Ok m)
 passes t m why e = ap (λ (x : Bool). let r : Answer = cond x (Ok m) (Err why) in r) e
 
+-- and one that was accepted is the answer
 pub accepted_to : (body : List ℕ) (m : Message) → IsAccepted body m → message_of body ≡ Ok m
 accepted_to body m a =
     sized (too_many body) (length body) (read_of body) (Ok m) (le-ltb message_limit (length body) a.small) (read_to envelope (empty envelope) m 0 body a.read)

@@ -13,8 +13,8 @@ ghost use Rattle.otlp_msg.specs.declared.dictionary.TableKind.TheVariants.{Strin
 ghost use Rattle.otlp_msg.specs.declared.refusal.Refusal.TheVariants.{Size, Wire, ZeroEntry, NotBuilt, NoMemory};
 
 /// Bytes are a message exactly if they are accepted, and each refusal says exactly what is wrong with them: there are too
-/// many, else they have this first fault, else their string table doesn't begin with the empty text. Nothing is a message
-/// for want of memory alone.
+/// many, else they have this first fault, else their string table doesn't begin with the empty text. Want of memory is
+/// never what is wrong with them.
 pub fn accepts_exactly()
     ensures accepted { (body : List ℕ) → (m : Message) → (message_of body ≡ Ok m) ↔ IsAccepted body m }
     ensures size { (body : List ℕ) → (len : ℕ) → (message_of body ≡ Err (Size len)) ↔ ((message_limit < length body) × (len ≡ length body)) }

@@ -62,7 +62,7 @@ fn refuses_a_long_file(rt: HostRuntime) -> Result<(), Fail> {
     assert_refused(&rt, alloc, whole, "wire fault FieldNumber at 0")
 }
 
-// Texts of refusals that no message has yet.
+// The texts that no bytes give yet, and that of want of memory.
 #[test]
 fn says_why(rt: HostRuntime) -> Result<(), Fail> {
     let alloc = rt.alloc();
