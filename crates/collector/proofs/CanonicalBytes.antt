@@ -1,20 +1,16 @@
 -- The canonical bytes of a meaning: how long they are, and that they are accepted.
-use Rattle.std.proofs.Common.{rules, ◌≡◌, ℕ, ◌+◌, ◌<◌, ◌≤◌, ◌^◌, Bool, true, false, cond, List, [], ◌∷◌, ◌++◌, length, map, Result, Ok, Err, IfOk, refl, sym, ap, subst, ◌∙◌, arith, append_assoc, length-append}
+use Rattle.std.proofs.Common.{rules, ◌≡◌, ℕ, ◌<◌, ◌≤◌, ◌^◌, Bool, true, false, cond, List, [], ◌∷◌, ◌++◌, length, Result, Ok, Err, IfOk, refl, sym, ap, subst, ◌∙◌, arith, length-append}
 use Rattle.std.specs.Prelude.{nat_lt}
 use Rattle.std.proofs.lemmas.Bool.{le-ltb, ltb-false}
 use Rattle.std.proofs.lemmas.List.{append-nil}
 use Rattle.std.specs.Str.{is_utf8}
 use Rattle.std.proofs.lemmas.Str.{IsUtf8-nil, is_utf8-from_IsUtf8}
-use Rattle.schema.specs.Fault.{Fault}
 use Rattle.schema.specs.Fits.{Fits}
-use Rattle.schema.specs.Merge.{merge}
-use Rattle.schema.specs.Messages.{resource_profiles, dictionary, envelope}
-use Rattle.schema.specs.Shape.{Value, empty}
-use Rattle.schema.specs.Spell.{spell, items_text, bytes_field, long_field, varint_upto}
+use Rattle.schema.specs.Messages.{dictionary, envelope}
+use Rattle.schema.specs.Shape.{Value}
+use Rattle.schema.specs.Spell.{spell, bytes_field, long_field, varint_upto}
 use Rattle.schema_laws.proofs.Back.{reads_back}
 use Rattle.schema_laws.proofs.Lawful.{lawful_from}
-use Rattle.otlp_msg.specs.declared.refusal.Refusal.{Refusal}
-use Rattle.otlp_msg.specs.declared.refusal.Refusal.TheVariants.{Size}
 use Rattle.otlp_msg.specs.Message.{Message, message_of, message_limit, tested}
 use Rattle.collector.specs.declared.canonical.BuildFault.{BuildFault}
 use Rattle.collector.specs.declared.canonical.BuildFault.TheVariants.{OutputLimit}

@@ -1,8 +1,8 @@
-use Rattle.std.proofs.Common.{◌≡◌, ◌++◌, List, ℕ, Ok, IfOk, IfErr, subst, ap, arith}
+use Rattle.std.proofs.Common.{◌≡◌, List, ℕ, Ok, IfOk, IfErr, subst, ap, arith}
 use Rattle.otlp_msg.specs.Checked.{value_of}
 use Rattle.otlp_msg.specs.Message.{records_of}
 use Rattle.otlp_msg.specs.Views.{dictionary_view}
-use Rattle.collector.specs.Canonical.{canonical_bytes, meaning_of, within_limit, IsBuildFault}
+use Rattle.collector.specs.Canonical.{within_limit, IsBuildFault}
 use Rattle.collector.proofs.CanonicalBytes.{zero_tables_len, both_parts, answered_accepted}
 use Rattle.collector.proofs.canonical.canon.Goals as goal
 
