@@ -2,8 +2,8 @@
 use Rattle.std.proofs.Common.{◌≡◌, ℕ, ◌+◌, ◌≤◌, List, [], ◌∷◌, ◌++◌, length, map, sum_by, refl, ◌∙◌, arith, length-append}
 use Rattle.std.proofs.lemmas.List.{length-map}
 use Rattle.std.proofs.lemmas.List.Sums.{sum_by-cons}
-use Rattle.schema.specs.Messages.{resource_profiles, scope_profiles, profile, dictionary, envelope}
-use Rattle.schema.specs.Shape.{Value, unbuilt}
+use Rattle.schema.specs.Messages.{resource_profiles, scope_profiles, plain_profile, dictionary, envelope}
+use Rattle.schema.specs.Shape.{Value}
 use Rattle.schema.specs.Spell.{spell, long_field, bytes_field, items_text}
 use Rattle.schema_laws.proofs.Onto.{long_len, varint_some}
 use Rattle.otlp_msg.specs.declared.profile.Profile.{Profile}
@@ -59,7 +59,7 @@ elements_spelled n inner (x ∷ xs) =
 
 -- so there are no more profiles than bytes
 profiles_within : (s : Value scope_profiles) → length s.1.0 ≤ length (spell scope_profiles s)
-profiles_within s = omega (arith, elements_spelled 2 (spell (unbuilt profile)) s.1.0, length-append (items_text 2 (map (spell (unbuilt profile)) s.1.0)) [])
+profiles_within s = omega (arith, elements_spelled 2 (spell plain_profile) s.1.0, length-append (items_text 2 (map (spell plain_profile) s.1.0)) [])
 
 scopes_within : (r : Value resource_profiles) → profiles_in_scopes r.1.0 ≤ length (spell resource_profiles r)
 scopes_within r =
@@ -74,7 +74,7 @@ profiles_few m =
 -- no profile has a sample
 none_in_profiles : (ps : List Profile) → samples_in_profiles (map profile_view ps) ≡ 0
 none_in_profiles ps =
-    sums_agree (λ (p : Value (unbuilt profile)). length p.1.0) (λ (p : Profile). 0) profile_view (λ p. refl) ps ∙ sum_is_none (λ (p : Profile). 0) (λ p. refl) ps
+    sums_agree (λ (p : Value plain_profile). length p.1.0) (λ (p : Profile). 0) profile_view (λ p. refl) ps ∙ sum_is_none (λ (p : Profile). 0) (λ p. refl) ps
 
 none_in_scopes : (scopes : List ScopeProfiles) → samples_in_scopes (map scope_profiles_view scopes) ≡ 0
 none_in_scopes scopes =

@@ -3,8 +3,8 @@ use Rattle.std.specs.Prelude.{◌≡◌, ℕ, List, [], ◌∷◌, length, sum_b
 use Rattle.schema.specs.Fault as faults
 use Rattle.schema.specs.Fault.{Fault}
 use Rattle.schema.specs.Merge.{merge}
-use Rattle.schema.specs.Messages.{envelope, resource_profiles, scope_profiles, profile, dictionary}
-use Rattle.schema.specs.Shape.{Value, empty, unbuilt}
+use Rattle.schema.specs.Messages.{envelope, resource_profiles, scope_profiles, plain_profile, dictionary}
+use Rattle.schema.specs.Shape.{Value, empty}
 use Rattle.pb_wire.specs.declared.fault.Reason.{Reason}
 use Rattle.pb_wire.specs.declared.fault.Reason.TheVariants as reasons
 use Rattle.otlp_msg.specs.declared.dictionary.TableKind.TheVariants.{String}
@@ -29,7 +29,7 @@ abbrev pub strings_of : Value dictionary → List (List ℕ)
 strings_of d = d.1.1.1.1.0
 
 -- how many profiles, and how many samples, there are in some profiles, scopes and resources
-abbrev pub samples_in_profiles : List (Value (unbuilt profile)) → ℕ
+abbrev pub samples_in_profiles : List (Value plain_profile) → ℕ
 samples_in_profiles profiles = sum_by (λ p. length p.1.0) profiles
 
 abbrev pub profiles_in_scopes : List (Value scope_profiles) → ℕ

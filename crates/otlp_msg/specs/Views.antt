@@ -1,6 +1,6 @@
 -- The records of the code as values of their shapes.
-use Rattle.std.specs.Prelude.{map}
-use Rattle.schema.specs.Messages.{mapping, location, function, link, attribute, stack, profile, scope_profiles, resource_profiles, dictionary, envelope}
+use Rattle.std.specs.Prelude.{[], map}
+use Rattle.schema.specs.Messages.{mapping, location, function, link, attribute, stack, plain_profile, scope_profiles, resource_profiles, dictionary, envelope}
 use Rattle.schema.specs.Shape.{Value, unbuilt, empty}
 use Rattle.otlp_msg.specs.declared.mapping.Mapping.{Mapping}
 use Rattle.otlp_msg.specs.declared.location.Location.{Location}
@@ -33,8 +33,26 @@ attribute_view v = empty (unbuilt attribute)
 abbrev pub stack_view : Stack → Value (unbuilt stack)
 stack_view v = empty (unbuilt stack)
 
-abbrev pub profile_view : Profile → Value (unbuilt profile)
-profile_view v = empty (unbuilt profile)
+abbrev pub profile_view : Profile → Value plain_profile
+profile_view v = (
+  tt,
+  (
+    [],
+    (
+      v.time_unix_nano,
+      (
+        v.duration_nano,
+        (
+          tt,
+          (
+            v.period,
+            (v.profile_id, (v.dropped_attributes_count, (v.original_payload_format, (v.original_payload, ([], tt))))),
+          ),
+        ),
+      ),
+    ),
+  ),
+)
 
 abbrev pub scope_profiles_view : ScopeProfiles → Value scope_profiles
 scope_profiles_view v = (tt, (map profile_view v.profiles, (tt, tt)))

@@ -1,9 +1,9 @@
 -- The schema: the messages of the OpenTelemetry Profiles signal, a line a message. It is after
 -- opentelemetry-proto 1.9.0 (`common/v1`, `resource/v1`, `profiles/v1development` and its collector service), which is
 -- under development; this table alone decides the fields and their numbers. A field's name stands in the comment, and a
--- field that is not read yet is marked `Unbuilt`, or `unbuilt` for each field of a message.
-use Rattle.std.specs.Prelude.{ℕ, ◌+◌}
-use Rattle.schema.specs.Shape.{Shape, Number, Fixed, Bytes, Text, Any, Index, Unbuilt, End, One, Many, U32, U64, I32, I64, Flag, Mappings, Locations, Functions, Links, Strings, Attributes, Stacks, unbuilt}
+-- field that is not read yet is marked `Unbuilt`; `unbuilt` marks each field of a message, and `without` those named.
+use Rattle.std.specs.Prelude.{ℕ, ◌+◌, [], ◌∷◌}
+use Rattle.schema.specs.Shape.{Shape, Number, Fixed, Bytes, Text, Any, Index, Unbuilt, End, One, Many, U32, U64, I32, I64, Flag, Mappings, Locations, Functions, Links, Strings, Attributes, Stacks, unbuilt, without}
 
 -- an index into the string table
 abbrev pub string : Shape
@@ -67,13 +67,17 @@ sample = One 1 (Index Stacks stack) (Many 2 (Number I64) (Many 3 (Index Attribut
 abbrev pub profile : Shape
 profile = One 1 value_type (Many 2 sample (One 3 Fixed (One 4 (Number U64) (One 5 value_type (One 6 (Number I64) (One 7 Bytes (One 8 (Number U32) (One 9 Text (One 10 Bytes (Many 11 (Index Attributes attribute) End))))))))))
 
+-- a profile as far as it is read: without its types, its samples and its attributes
+abbrev pub plain_profile : Shape
+plain_profile = without (1 ∷ 2 ∷ 5 ∷ 11 ∷ []) profile
+
 -- Scope: 1 name, 2 version, 3 attributes, 4 dropped_attributes_count
 abbrev pub scope : Shape
 scope = One 1 Text (One 2 Text (Many 3 (key_value 1) (One 4 (Number U32) End)))
 
 -- ScopeProfiles: 1 scope, 2 profiles, 3 schema_url
 abbrev pub scope_profiles : Shape
-scope_profiles = One 1 (Unbuilt scope) (Many 2 (unbuilt profile) (One 3 (Unbuilt Text) End))
+scope_profiles = One 1 (Unbuilt scope) (Many 2 plain_profile (One 3 (Unbuilt Text) End))
 
 -- Resource: 1 attributes, 2 dropped_attributes_count, 3 opaque, whose elements are carried unread
 abbrev pub resource : Shape

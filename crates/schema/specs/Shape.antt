@@ -1,6 +1,7 @@
 -- The shapes of messages as data, and the values of a shape.
-use Rattle.std.specs.Prelude.{ℕ, ℤ, pos, ◌%◌, ◌^◌, List, [], Bool, false, not, ◌==◌, ◌||◌}
+use Rattle.std.specs.Prelude.{ℕ, ℤ, pos, ◌%◌, ◌^◌, List, [], Bool, false, not, ◌==◌, ◌||◌, if◌then◌else◌}
 use Rattle.std.specs.Int.{w32, w64, cast_signed}
+use Rattle.std.specs.List.{list_any}
 use Rattle.schema.specs.Field.{Payload, wire_type}
 
 -- how a number is written as a varint
@@ -109,6 +110,12 @@ fits_one k payload = wire_type payload == own_type k
 
 abbrev pub fits_many : Shape → Payload → Bool
 fits_many k payload = (wire_type payload == own_type k) || (wire_type payload == 2)
+
+-- the same message, of whose rows those with these numbers are not read
+abbrev pub without : List ℕ → Shape → Shape
+without ns (One n k rest) = One n (if list_any (λ m. m == n) ns then Unbuilt k else k) (without ns rest)
+without ns (Many n k rest) = Many n (if list_any (λ m. m == n) ns then Unbuilt k else k) (without ns rest)
+without ns s = s
 
 -- the same message with no row that is read
 abbrev pub unbuilt : Shape → Shape
