@@ -1,0 +1,5 @@
+pub mod Tree
+pub mod Tables
+pub mod Meaning
+pub mod Canonical
+pub mod Steps
