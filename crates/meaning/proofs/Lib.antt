@@ -1,1 +1,4 @@
 pub mod Trees
+pub mod Places
+pub mod Sound
+pub mod Restores

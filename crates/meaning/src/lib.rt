@@ -4,10 +4,26 @@
 #![tactic(auto)]
 
 ghost use Rattle.std.specs.Prelude.{◌≡◌};
-ghost use Rattle.schema.specs.Shape.{Shape, Value};
-ghost use Rattle.meaning.specs.Tree.{tree, value};
+ghost use Rattle.schema.specs.Shape.{Shape, Table, Value};
+ghost use Rattle.meaning.specs.Tree.{Tree, tree, value};
+ghost use Rattle.meaning.specs.Tables.{IsSound};
+ghost use Rattle.meaning.specs.Meaning.{resolve};
+ghost use Rattle.meaning.specs.Canonical.{tables_of, renumber, entries};
 
 /// A value is the value of its tree.
 pub fn trees_keep_values()
     ensures { (s : Shape) → (v : Value s) → value s (tree s v) ≡ v }
+{}
+
+/// The canonical tables of a meaning, with its records renumbered, mean the same.
+pub fn canonical_resolves()
+    ensures { (s : Shape) → IsSound s → (m : Tree) → let v = tables_of s m in
+        resolve (entries v) s (renumber v s m) ≡ m }
+{}
+
+/// Meanings whose canonical entries and renumbered records are equal are equal.
+pub fn canonical_is_unique()
+    ensures { (s : Shape) → IsSound s → (m : Tree) → (n : Tree)
+        → ((T : Table) → entries (tables_of s m) T ≡ entries (tables_of s n) T)
+        → renumber (tables_of s m) s m ≡ renumber (tables_of s n) s n → m ≡ n }
 {}
