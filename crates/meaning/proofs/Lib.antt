@@ -2,3 +2,5 @@ pub mod Trees
 pub mod Places
 pub mod Sound
 pub mod Restores
+pub mod Closed
+pub mod Orders
