@@ -4,3 +4,4 @@ pub mod Sound
 pub mod Restores
 pub mod Closed
 pub mod Orders
+pub mod Zero

@@ -1,5 +1,6 @@
 -- Whether an entry is visited before or behind those that it names makes no difference.
 use Rattle.std.proofs.Common.{◌≡◌, List, [], ◌∷◌, ◌++◌, Bool, true, false, cond, not, ◌&&◌, refl, sym, ap, ◌∙◌, subst}
+use mathlib.Core.Path.{fun_ext}
 use Rattle.std.proofs.lemmas.List.{append-nil}
 use Rattle.std.proofs.lemmas.Bool.{and_parts}
 use Rattle.schema.specs.Shape.{Shape, Number, Fixed, Bytes, Text, Any, Index, Unbuilt, End, One, Many, Table, Mappings, Locations, Functions, Links, Strings, Attributes, Stacks}
@@ -29,20 +30,10 @@ entry_avoids Stacks = refl
 -- ---- walks that agree
 
 each_agree : (w z : Tree → List Tree) → ((t : Tree) → w t ≡ z t) → (t : Tree) → walk_each w t ≡ walk_each z t
-each_agree w z h (Cons t ts) = rw (h t, each_agree w z h ts) refl
-each_agree w z h (Natural n) = refl
-each_agree w z h (Integer z') = refl
-each_agree w z h (Boolean b) = refl
-each_agree w z h (Octets a) = refl
-each_agree w z h Nil = refl
+each_agree w z h t = ap (λ f. walk_each f t) (fun_ext h)
 
 parts_agree : (w z w' z' : Tree → List Tree) → ((t : Tree) → w t ≡ z t) → ((t : Tree) → w' t ≡ z' t) → (t : Tree) → walk_parts w w' t ≡ walk_parts z z' t
-parts_agree w z w' z' h i (Cons t ts) = rw (h t, i ts) refl
-parts_agree w z w' z' h i (Natural n) = refl
-parts_agree w z w' z' h i (Integer y) = refl
-parts_agree w z w' z' h i (Boolean b) = refl
-parts_agree w z w' z' h i (Octets a) = refl
-parts_agree w z w' z' h i Nil = refl
+parts_agree w z w' z' h i t = ap (λ f. walk_parts f w' t) (fun_ext h) ∙ ap (λ f. walk_parts z f t) (fun_ext i)
 
 -- ---- walks that meet nothing
 

@@ -60,3 +60,17 @@ visits T (Index U k) t = visits T k t ++ cond (same_table T U) (t ∷ []) []
 visits T (One n k rest) t = walk_parts (visits T k) (visits T rest) t
 visits T (Many n k rest) t = walk_parts (walk_each (visits T k)) (visits T rest) t
 visits T s t = []
+
+-- ---- empty tables and zero entries
+
+-- An empty table is its zero entry alone.
+abbrev pub or_blank : List Tree → Shape → List Tree
+or_blank [] k = blank k ∷ []
+or_blank (e ∷ es) k = e ∷ es
+
+abbrev pub filled : Tables → Tables
+filled d T = or_blank (d T) (entry T)
+
+-- entry 0 of each table that is not empty is the zero entry
+abbrev pub HasZeros : Tables → Type 0
+HasZeros d = (T : Table) → entry_at (d T) (entry T) (Integer (pos 0)) ≡ blank (entry T)

@@ -3,12 +3,12 @@
 //! no body, over all shapes at once.
 #![tactic(auto)]
 
-ghost use Rattle.std.specs.Prelude.{◌≡◌};
+ghost use Rattle.std.specs.Prelude.{◌≡◌, ℕ, pos, List, ◌∷◌};
 ghost use Rattle.schema.specs.Fits.{Each};
-ghost use Rattle.schema.specs.Shape.{Shape, Table, Value};
-ghost use Rattle.meaning.specs.Tree.{Tree, tree, value};
-ghost use Rattle.meaning.specs.Tables.{IsSound, entry};
-ghost use Rattle.meaning.specs.Meaning.{resolve};
+ghost use Rattle.schema.specs.Shape.{Shape, Index, Table, Value};
+ghost use Rattle.meaning.specs.Tree.{Tree, Integer, tree, value};
+ghost use Rattle.meaning.specs.Tables.{Tables, IsSound, entry};
+ghost use Rattle.meaning.specs.Meaning.{resolve, blank, zero_value, entry_at, HasZeros, filled};
 ghost use Rattle.meaning.specs.Canonical.{tables_of, visited_tables, renumber, entries, IsWithin};
 
 /// A value is the value of its tree.
@@ -39,4 +39,24 @@ pub fn indexes_in_tables()
 /// Visiting each entry behind those that it names gives the same tables.
 pub fn orders_agree()
     ensures { (s : Shape) → IsSound s → (m : Tree) → (T : Table) → visited_tables s m T ≡ tables_of s m T }
+{}
+
+/// Each table of a meaning begins with the zero value, whose entry is the empty one and whose index is 0.
+pub fn zero_comes_first()
+    ensures value { (s : Shape) → (m : Tree) → (T : Table) → (rest : List Tree) × (tables_of s m T ≡ zero_value (entry T) ∷ rest) }
+    ensures entry { (s : Shape) → (m : Tree) → (T : Table) → (rest : List Tree) × (entries (tables_of s m) T ≡ blank (entry T) ∷ rest) }
+    ensures index { (s : Shape) → (m : Tree) → (k : Shape) → IsSound k → renumber (tables_of s m) k (zero_value k) ≡ blank k }
+{}
+
+/// Where entries 0 are the zero entries, the empty value means the zero value, and so does an index to a zero entry,
+/// wherever that stands.
+pub fn zero_entries_mean_zero()
+    ensures empty { (d : Tables) → HasZeros d → (s : Shape) → IsSound s → resolve d s (blank s) ≡ zero_value s }
+    ensures index { (d : Tables) → HasZeros d → (T : Table) → (i : ℕ) → entry_at (d T) (entry T) (Integer (pos i)) ≡ blank (entry T)
+        → resolve d (Index T (entry T)) (Integer (pos i)) ≡ resolve d (Index T (entry T)) (Integer (pos 0)) }
+{}
+
+/// An empty table and a table of its zero entry alone mean the same.
+pub fn empty_tables_hold_zero()
+    ensures { (d : Tables) → (s : Shape) → IsSound s → (t : Tree) → resolve (filled d) s t ≡ resolve d s t }
 {}
