@@ -5,3 +5,4 @@ pub mod Restores
 pub mod Closed
 pub mod Orders
 pub mod Zero
+pub mod Grown
