@@ -6,3 +6,5 @@ pub mod Closed
 pub mod Orders
 pub mod Zero
 pub mod Grown
+pub mod Interned
+pub mod Indexes

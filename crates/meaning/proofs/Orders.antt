@@ -11,7 +11,7 @@ use Rattle.meaning.specs.Canonical.{zeros, tables_of, visited_tables}
 use Rattle.meaning.proofs.Sound.{same_table-true}
 
 -- a shape names no entry of the table
-abbrev avoids : Table → Shape → Bool
+abbrev pub avoids : Table → Shape → Bool
 avoids T (Index U k) = not (same_table T U) && avoids T k
 avoids T (One n k rest) = avoids T k && avoids T rest
 avoids T (Many n k rest) = avoids T k && avoids T rest
