@@ -8,3 +8,4 @@ pub mod Zero
 pub mod Grown
 pub mod Interned
 pub mod Indexes
+pub mod Drafts

@@ -1,8 +1,8 @@
 -- The canonical tables of a meaning, and the indexes of its values there.
 use Rattle.std.specs.Prelude.{◌≡◌, ℕ, ℤ, pos, negsuc, ◌<◌, List, [], ◌∷◌, ◌++◌, map, length, true}
 use Rattle.schema.specs.Fits.{Each}
-use Rattle.schema.specs.Shape.{Shape, Index, One, Many, Table}
-use Rattle.meaning.specs.Tree.{Tree, Integer, Nil, Cons, integer_of}
+use Rattle.schema.specs.Shape.{Shape, Index, End, One, Many, Table}
+use Rattle.meaning.specs.Tree.{Tree, Integer, Nil, Cons, integer_of, listed}
 use Rattle.meaning.specs.Tables.{Tables, entry, has, place, with_new}
 use Rattle.meaning.specs.Meaning.{at_parts, at_each, zero_value, resolve, uses, visits}
 
@@ -31,6 +31,13 @@ entries v T = map (renumber v (entry T)) (v T)
 
 abbrev pub values : Tables → Tables
 values d T = map (resolve d (entry T)) (d T)
+
+-- a list of records as a message of its own, and its tree
+abbrev pub records : Shape → Shape
+records k = Many 1 k End
+
+abbrev pub record_list : List Tree → Tree
+record_list ms = Cons (listed ms) Nil
 
 -- ---- what holds of such tables
 

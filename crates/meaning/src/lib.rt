@@ -9,7 +9,8 @@ ghost use Rattle.schema.specs.Shape.{Shape, Index, Table, Value};
 ghost use Rattle.meaning.specs.Tree.{Tree, Integer, tree, value};
 ghost use Rattle.meaning.specs.Tables.{Tables, IsSound, entry};
 ghost use Rattle.meaning.specs.Meaning.{resolve, blank, zero_value, entry_at, HasZeros, filled};
-ghost use Rattle.meaning.specs.Canonical.{tables_of, visited_tables, renumber, entries, IsWithin};
+ghost use Rattle.meaning.specs.Canonical.{tables_of, visited_tables, renumber, entries, records, record_list, IsWithin, Covers};
+ghost use Rattle.meaning.specs.Steps.{Drafted};
 
 /// A value is the value of its tree.
 pub fn trees_keep_values()
@@ -59,4 +60,18 @@ pub fn zero_entries_mean_zero()
 /// An empty table and a table of its zero entry alone mean the same.
 pub fn empty_tables_hold_zero()
     ensures { (d : Tables) → (s : Shape) → IsSound s → (t : Tree) → resolve (filled d) s t ≡ resolve d s t }
+{}
+
+/// The entries and records of a draft are the canonical ones of its meanings.
+pub fn drafts_are_canonical()
+    ensures entries { (k : Shape) → (d : Tables) → (ms : List Tree) → (xs : List Tree) → Drafted k d ms xs → (T : Table)
+        → d T ≡ entries (tables_of (records k) (record_list ms)) T }
+    ensures records { (k : Shape) → (d : Tables) → (ms : List Tree) → (xs : List Tree) → Drafted k d ms xs
+        → record_list xs ≡ renumber (tables_of (records k) (record_list ms)) (records k) (record_list ms) }
+{}
+
+/// Entries of lists that cover two meanings tell these apart.
+pub fn entries_tell_values_apart()
+    ensures { (v : Tables) → (s : Shape) → IsSound s → (m : Tree) → (n : Tree) → Covers v s m → Covers v s n
+        → renumber v s m ≡ renumber v s n → m ≡ n }
 {}
