@@ -9,3 +9,4 @@ pub mod Grown
 pub mod Interned
 pub mod Indexes
 pub mod Drafts
+pub mod Forms

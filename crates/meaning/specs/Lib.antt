@@ -3,3 +3,4 @@ pub mod Tables
 pub mod Meaning
 pub mod Canonical
 pub mod Steps
+pub mod Message

@@ -1,7 +1,7 @@
 -- What a message means: its values with each index replaced by the value of the entry that it names.
 use Rattle.std.specs.Prelude.{◌≡◌, ℕ, ℤ, pos, negsuc, List, [], ◌∷◌, ◌++◌, Bool, false, cond, get_or}
 use Rattle.schema.specs.Shape.{Shape, Number, Fixed, Bytes, Text, Any, Index, Unbuilt, End, One, Many, Table, empty}
-use Rattle.meaning.specs.Tree.{Tree, Natural, Integer, Boolean, Octets, Nil, Cons, tree, number_tree}
+use Rattle.meaning.specs.Tree.{Tree, Natural, Integer, Boolean, Octets, Nil, Cons, tree, IsOf}
 use Rattle.meaning.specs.Tables.{Tables, entry, same_table}
 
 -- one function at the first row and one at the others; and a function at each element
@@ -60,6 +60,25 @@ visits T (Index U k) t = visits T k t ++ cond (same_table T U) (t ∷ []) []
 visits T (One n k rest) t = walk_parts (visits T k) (visits T rest) t
 visits T (Many n k rest) t = walk_parts (walk_each (visits T k)) (visits T rest) t
 visits T s t = []
+
+-- ---- trees that are meanings
+
+-- P of the first row and Q of the others, of a tree that has rows
+abbrev pub AreParts : (Tree → Type 0) → (Tree → Type 0) → Tree → Type 0
+AreParts P Q (Cons t ts) = P t × Q ts
+AreParts P Q t = ⊥
+
+-- P of each element, of a tree that is a list
+abbrev pub AreElements : (Tree → Type 0) → Tree → Type 0
+AreElements P (Cons t ts) = P t × AreElements P ts
+AreElements P t = t ≡ Nil
+
+-- A tree is what some value of this shape may mean: where the value has an index, the tree has what an entry means.
+abbrev pub IsMeaning : Shape → Tree → Type 0
+IsMeaning (Index T k) t = IsMeaning k t
+IsMeaning (One n k rest) t = AreParts (IsMeaning k) (IsMeaning rest) t
+IsMeaning (Many n k rest) t = AreParts (AreElements (IsMeaning k)) (IsMeaning rest) t
+IsMeaning s t = IsOf s t
 
 -- ---- empty tables and zero entries
 

@@ -93,6 +93,10 @@ value End t = tt
 value (One n k rest) t = (value k (head_of t), value rest (tail_of t))
 value (Many n k rest) t = (map (value k) (elements (head_of t)), value rest (tail_of t))
 
+-- the tree is that of a value
+abbrev pub IsOf : Shape → Tree → Type 0
+IsOf s t = tree s (value s t) ≡ t
+
 -- ---- the test of equality
 
 abbrev pub same : Tree → Tree → Bool
