@@ -10,3 +10,4 @@ pub mod Interned
 pub mod Indexes
 pub mod Drafts
 pub mod Forms
+pub mod Message

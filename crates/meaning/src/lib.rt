@@ -3,12 +3,14 @@
 //! no body, over all shapes at once.
 #![tactic(auto)]
 
-ghost use Rattle.std.specs.Prelude.{◌≡◌, ℕ, pos, List, ◌∷◌};
-ghost use Rattle.schema.specs.Fits.{Each};
-ghost use Rattle.schema.specs.Shape.{Shape, Index, Table, Value};
+ghost use Rattle.std.specs.Prelude.{◌≡◌, ℕ, pos, List, ◌∷◌, Ok};
+ghost use Rattle.schema.specs.Fits.{Each, Fits, Lawful};
+ghost use Rattle.schema.specs.Merge.{merge};
+ghost use Rattle.schema.specs.Shape.{Shape, Index, Table, Value, empty};
 ghost use Rattle.meaning.specs.Tree.{Tree, Integer, tree, value};
 ghost use Rattle.meaning.specs.Tables.{Tables, IsSound, entry};
-ghost use Rattle.meaning.specs.Meaning.{resolve, blank, zero_value, entry_at, HasZeros, filled};
+ghost use Rattle.meaning.specs.Meaning.{resolve, blank, zero_value, entry_at, HasZeros, filled, IsMeaning};
+ghost use Rattle.meaning.specs.Message.{message, meaning_of, canonical_value, meaning_text};
 ghost use Rattle.meaning.specs.Canonical.{tables_of, visited_tables, renumber, entries, records, record_list, IsWithin, Covers};
 ghost use Rattle.meaning.specs.Steps.{Drafted};
 
@@ -74,4 +76,23 @@ pub fn drafts_are_canonical()
 pub fn entries_tell_values_apart()
     ensures { (v : Tables) → (s : Shape) → IsSound s → (m : Tree) → (n : Tree) → Covers v s m → Covers v s n
         → renumber v s m ≡ renumber v s n → m ≡ n }
+{}
+
+/// The canonical message of a meaning means it, and whatever a message means is such a meaning.
+pub fn canonical_message_means_the_same()
+    ensures same { (k : Shape) → IsSound k → (ms : List Tree) → Each (IsMeaning k) ms → meaning_of k (canonical_value k ms) ≡ ms }
+    ensures all { (k : Shape) → IsSound k → (x : Value (message k)) → Each (IsMeaning k) (meaning_of k x) }
+{}
+
+/// The canonical bytes of a meaning that can be written are read as its canonical message, wherever they begin.
+pub fn canonical_bytes_are_read()
+    ensures { (k : Shape) → Lawful k → (ms : List Tree) → Fits (message k) (canonical_value k ms) → (base : ℕ)
+        → merge (message k) (empty (message k)) base (meaning_text k ms) ≡ Ok (canonical_value k ms) }
+{}
+
+/// Meanings that can be written have the same canonical bytes only where they are the same.
+pub fn canonical_bytes_are_unique()
+    ensures { (k : Shape) → IsSound k → Lawful k → (ms : List Tree) → (ns : List Tree) → Each (IsMeaning k) ms → Each (IsMeaning k) ns
+        → Fits (message k) (canonical_value k ms) → Fits (message k) (canonical_value k ns)
+        → meaning_text k ms ≡ meaning_text k ns → ms ≡ ns }
 {}
