@@ -11,3 +11,4 @@ pub mod Indexes
 pub mod Drafts
 pub mod Forms
 pub mod Message
+pub mod Texts

@@ -2,7 +2,7 @@
 use Rattle.std.proofs.Common.{◌≡◌, ℕ, zero, suc, List, [], ◌∷◌, Bool, true, false, cond, refl, sym, ap, ◌∙◌}
 use Rattle.std.proofs.lemmas.Bool.{eqb-true}
 use Rattle.schema.specs.Fits.{Each}
-use Rattle.schema.specs.Messages.{string, mapping, location, function, link, attribute, stack, profile, envelope}
+use Rattle.schema.specs.Messages.{string, mapping, location, function, link, attribute, stack, profile, key_value, scope_profiles, resource_profiles}
 use Rattle.schema.specs.Shape.{Shape, Table, Mappings, Locations, Functions, Links, Strings, Attributes, Stacks}
 use Rattle.meaning.specs.Tree.{Tree}
 use Rattle.meaning.specs.Tables.{IsSound, entry, field_of, same_table}
@@ -86,3 +86,12 @@ profile_sound = (
     (tt, (tt, ((string_sound, (string_sound, tt)), (tt, (tt, (tt, (tt, (tt, ((refl, attribute_sound), tt))))))))),
   ),
 )
+
+key_value_sound : (depth : ℕ) → IsSound (key_value depth)
+key_value_sound depth = (tt, (tt, tt))
+
+scope_profiles_sound : IsSound scope_profiles
+scope_profiles_sound = ((tt, (tt, (key_value_sound 1, (tt, tt)))), (profile_sound, (tt, tt)))
+
+pub records_sound : IsSound resource_profiles
+records_sound = ((key_value_sound 1, (tt, (tt, tt))), (scope_profiles_sound, (tt, tt)))

@@ -1,10 +1,10 @@
 -- A whole message: its records, and the dictionary with all seven tables. What it means, and the canonical message and
 -- bytes of a meaning.
-use Rattle.std.specs.Prelude.{ℕ, List, map}
+use Rattle.std.specs.Prelude.{ℕ, List, ◌++◌, map}
 use Rattle.schema.specs.Shape.{Shape, End, One, Many, Value, Table, Mappings, Locations, Functions, Links, Strings, Attributes, Stacks}
-use Rattle.schema.specs.Spell.{spell}
-use Rattle.meaning.specs.Tree.{Tree, tree, value}
-use Rattle.meaning.specs.Tables.{Tables, entry}
+use Rattle.schema.specs.Spell.{items_text, spell}
+use Rattle.meaning.specs.Tree.{Tree, octets_of, tree, value}
+use Rattle.meaning.specs.Tables.{Tables, entry, field_of}
 use Rattle.meaning.specs.Meaning.{resolve}
 use Rattle.meaning.specs.Canonical.{tables_of, renumber, entries, records, record_list}
 
@@ -65,3 +65,23 @@ canonical_value k ms = let v = tables_for k ms in (map (λ m. value k (renumber 
 -- the canonical bytes of a meaning
 abbrev pub meaning_text : Shape → List Tree → List ℕ
 meaning_text k ms = spell (message k) (canonical_value k ms)
+
+-- ---- its parts
+
+-- The bytes of an entry: a string's own, and of other entries the spelling. They serve as its key, too.
+abbrev pub entry_text : Table → Tree → List ℕ
+entry_text Strings e = octets_of e
+entry_text T e = spell (entry T) (value (entry T) e)
+
+-- a table's entries, each behind its tag and length, also an empty one
+abbrev pub table_text : Table → List Tree → List ℕ
+table_text T es = items_text (field_of T) (map (entry_text T) es)
+
+abbrev pub dictionary_text : Tables → List ℕ
+dictionary_text d =
+    table_text Mappings (d Mappings) ++ (table_text Locations (d Locations) ++ (table_text Functions (d Functions)
+    ++ (table_text Links (d Links) ++ (table_text Strings (d Strings) ++ (table_text Attributes (d Attributes) ++ table_text Stacks (d Stacks))))))
+
+-- a record's tree
+abbrev pub record_text : Shape → Tree → List ℕ
+record_text k x = spell k (value k x)

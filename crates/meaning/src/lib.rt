@@ -3,14 +3,16 @@
 //! no body, over all shapes at once.
 #![tactic(auto)]
 
-ghost use Rattle.std.specs.Prelude.{◌≡◌, ℕ, pos, List, ◌∷◌, Ok};
+ghost use Rattle.std.specs.Prelude.{◌≡◌, ℕ, pos, List, ◌∷◌, ◌++◌, map, Ok};
 ghost use Rattle.schema.specs.Fits.{Each, Fits, Lawful};
 ghost use Rattle.schema.specs.Merge.{merge};
-ghost use Rattle.schema.specs.Shape.{Shape, Index, Table, Value, empty};
-ghost use Rattle.meaning.specs.Tree.{Tree, Integer, tree, value};
+ghost use Rattle.schema.specs.Shape.{IsMessage, Shape, Index, Table, Value, empty};
+ghost use Rattle.schema.specs.Messages.{profile, resource_profiles};
+ghost use Rattle.schema.specs.Spell.{items_text, long_field, spell};
+ghost use Rattle.meaning.specs.Tree.{Tree, Integer, tree, value, IsOf};
 ghost use Rattle.meaning.specs.Tables.{Tables, IsSound, entry};
 ghost use Rattle.meaning.specs.Meaning.{resolve, blank, zero_value, entry_at, HasZeros, filled, IsMeaning};
-ghost use Rattle.meaning.specs.Message.{message, meaning_of, canonical_value, meaning_text};
+ghost use Rattle.meaning.specs.Message.{dictionary, dictionary_value, message, meaning_of, tables_for, canonical_value, meaning_text, entry_text, record_text, dictionary_text};
 ghost use Rattle.meaning.specs.Canonical.{tables_of, visited_tables, renumber, entries, records, record_list, IsWithin, Covers};
 ghost use Rattle.meaning.specs.Steps.{Drafted};
 
@@ -95,4 +97,25 @@ pub fn canonical_bytes_are_unique()
     ensures { (k : Shape) → IsSound k → Lawful k → (ms : List Tree) → (ns : List Tree) → Each (IsMeaning k) ms → Each (IsMeaning k) ns
         → Fits (message k) (canonical_value k ms) → Fits (message k) (canonical_value k ns)
         → meaning_text k ms ≡ meaning_text k ns → ms ≡ ns }
+{}
+
+/// The canonical bytes are the records, each behind its tag and length, and then the dictionary, which is always written
+/// with all its tables.
+pub fn canonical_bytes_have_their_parts()
+    ensures whole { (k : Shape) → IsMessage k → (ms : List Tree) → let v = tables_for k ms in
+        meaning_text k ms ≡ items_text 1 (map (λ m. record_text k (renumber v k m)) ms) ++ long_field 2 (dictionary_text (entries v)) }
+    ensures dictionary { (d : Tables) → spell dictionary (dictionary_value d) ≡ dictionary_text d }
+{}
+
+/// Entries that can be written have the same bytes only where they are the same.
+pub fn entry_bytes_tell_entries_apart()
+    ensures { (T : Table) → (e : Tree) → (f : Tree) → IsOf (entry T) e → IsOf (entry T) f
+        → Fits (entry T) (value (entry T) e) → Fits (entry T) (value (entry T) f) → entry_text T e ≡ entry_text T f → e ≡ f }
+{}
+
+/// In the schema, each index has the shape of its table's entries.
+pub fn schema_is_sound()
+    ensures entries { (T : Table) → IsSound (entry T) }
+    ensures profile { IsSound profile }
+    ensures records { IsSound resource_profiles }
 {}
