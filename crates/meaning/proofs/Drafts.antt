@@ -2,6 +2,7 @@
 use Rattle.std.proofs.Common.{◌≡◌, ℕ, zero, suc, List, [], ◌∷◌, ◌++◌, length, take, map, refl, sym, ap, ◌∙◌, subst}
 use mathlib.Core.Path.{fun_ext}
 use Rattle.std.proofs.lemmas.List.{length-map}
+use Rattle.std.specs.List.{flat_map}
 use Rattle.schema.specs.Fits.{Each}
 use Rattle.schema.specs.Shape.{Shape, End, Many, Table}
 use Rattle.meaning.specs.Tree.{Tree, Nil, Cons, listed}
@@ -10,7 +11,7 @@ use Rattle.meaning.specs.Meaning.{blank, uses, resolve}
 use Rattle.meaning.specs.Canonical.{Covers, zeros, tables_of, renumber, entries, values, records, record_list}
 use Rattle.meaning.specs.Steps.{Stands, Written, WrittenEach, Drafted}
 use Rattle.meaning.proofs.Places.{each_all, grown-begins, map-same}
-use Rattle.meaning.proofs.Grown.{written_grown, renumber-grown, written_none, written_append, written_rows}
+use Rattle.meaning.proofs.Grown.{grown_by, renumber-grown, written_none, written_append, written_rows}
 use Rattle.meaning.proofs.Interned.{begins}
 use Rattle.meaning.proofs.Indexes.{written_plain}
 
@@ -52,17 +53,26 @@ take-map f zero xs = refl
 take-map f (suc n) [] = refl
 take-map f (suc n) (x ∷ xs) = ap (λ l. f x ∷ l) (take-map f n xs)
 
--- entries that are cut to their old lengths are the old ones, whatever was written in between
-pub cut_back : {s : Shape} (k k' : Tables) {m x : Tree} → Stands k → Stands k' → Written s (values k) (values k') m x
+-- entries that are cut to their old lengths are the old ones, whatever their values gained in between
+grown-cut : (k k' : Tables) (us : Table → List Tree) → Stands k → Stands k' → ((T : Table) → values k' T ≡ with_new (values k T) (us T))
     → (T : Table) → take (length (k T)) (k' T) ≡ k T
-cut_back {s} k k' {m} {x} h h' r T =
+grown-cut k k' us h h' r T =
     let v : Tables = values k in
     let w : Tables = values k' in
-    let g = grown-begins (uses T s m) (v T) in
+    let g = grown-begins (us T) (v T) in
     let l : length (k T) ≡ length (v T) = sym (length-map (k T) (resolve k (entry T))) in
     let f : Tree → Tree = renumber w (entry T) in
-    let front : take (length (v T)) (w T) ≡ v T = ap (take (length (v T))) (r.walked T ∙ g.1) ∙ take-append (v T) g.0 in
+    let front : take (length (v T)) (w T) ≡ v T = ap (take (length (v T))) (r T ∙ g.1) ∙ take-append (v T) g.0 in
     ap (λ n. take n (k' T)) l ∙ ap (take (length (v T))) (sym (h'.same T)) ∙ take-map f (length (v T)) (w T) ∙ ap (map f) front
     ∙ map-same f (renumber v (entry T)) (v T)
-    (each_all (Covers v (entry T)) (λ y. f y ≡ renumber v (entry T) y) (renumber-grown v w (written_grown r) (entry T)) (v T) (h.closed T))
+    (each_all (Covers v (entry T)) (λ y. f y ≡ renumber v (entry T) y) (renumber-grown v w (grown_by v w us r) (entry T)) (v T) (h.closed T))
     ∙ h.same T
+
+-- a message, or a list of them, is taken back
+pub cut_back : {s : Shape} (k k' : Tables) {m x : Tree} → Stands k → Stands k' → Written s (values k) (values k') m x
+    → (T : Table) → take (length (k T)) (k' T) ≡ k T
+cut_back {s} k k' {m} {x} h h' r = grown-cut k k' (λ T. uses T s m) h h' r.walked
+
+pub cut_back_each : {s : Shape} (k k' : Tables) {ms xs : List Tree} → Stands k → Stands k' → WrittenEach s (values k) (values k') ms xs
+    → (T : Table) → take (length (k T)) (k' T) ≡ k T
+cut_back_each {s} k k' {ms} {xs} h h' r = grown-cut k k' (λ T. flat_map (uses T s) ms) h h' r.walked

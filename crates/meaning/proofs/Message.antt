@@ -93,3 +93,9 @@ text_apart k i l ms ns h g f q e =
     sym (means_the_same k i ms h)
     ∙ ap (meaning_of k) (spelled_apart (message k) tt (message_lawful k l) (canonical_value k ms) (canonical_value k ns) f q e)
     ∙ means_the_same k i ns g
+
+-- A message that is rebuilt means what it did.
+pub rebuilt : (k : Shape) → IsSound k → Lawful k → (x : Value (message k)) → Fits (message k) (canonical_value k (meaning_of k x)) → (base : ℕ)
+    → (y : Value (message k)) × (merge (message k) (empty (message k)) base (meaning_text k (meaning_of k x)) ≡ Ok y) × (meaning_of k y ≡ meaning_of k x)
+rebuilt k i l x f base =
+    (canonical_value k (meaning_of k x), text_back k l (meaning_of k x) f base, means_the_same k i (meaning_of k x) (messages_mean k i x))

@@ -4,3 +4,4 @@ pub mod Meaning
 pub mod Canonical
 pub mod Steps
 pub mod Message
+pub mod Samples

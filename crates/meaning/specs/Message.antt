@@ -82,6 +82,6 @@ dictionary_text d =
     table_text Mappings (d Mappings) ++ (table_text Locations (d Locations) ++ (table_text Functions (d Functions)
     ++ (table_text Links (d Links) ++ (table_text Strings (d Strings) ++ (table_text Attributes (d Attributes) ++ table_text Stacks (d Stacks))))))
 
--- a record's tree
+-- the bytes of a record with its new indexes
 abbrev pub record_text : Shape → Tree → List ℕ
 record_text k x = spell k (value k x)

@@ -92,6 +92,14 @@ pub fn canonical_bytes_are_read()
         → merge (message k) (empty (message k)) base (meaning_text k ms) ≡ Ok (canonical_value k ms) }
 {}
 
+/// A message that is rebuilt from its meaning is read as one that means the same, and that would be rebuilt as it is.
+pub fn rebuilding_keeps_the_meaning()
+    ensures read { (k : Shape) → IsSound k → Lawful k → (x : Value (message k)) → Fits (message k) (canonical_value k (meaning_of k x)) → (base : ℕ)
+        → (y : Value (message k)) × (merge (message k) (empty (message k)) base (meaning_text k (meaning_of k x)) ≡ Ok y) × (meaning_of k y ≡ meaning_of k x) }
+    ensures again { (k : Shape) → IsSound k → (ms : List Tree) → Each (IsMeaning k) ms
+        → meaning_text k (meaning_of k (canonical_value k ms)) ≡ meaning_text k ms }
+{}
+
 /// Meanings that can be written have the same canonical bytes only where they are the same.
 pub fn canonical_bytes_are_unique()
     ensures { (k : Shape) → IsSound k → Lawful k → (ms : List Tree) → (ns : List Tree) → Each (IsMeaning k) ms → Each (IsMeaning k) ns
