@@ -5,13 +5,13 @@ use Rattle.schema.specs.Fits.{Each}
 use Rattle.schema.specs.Shape.{Shape, Number, Fixed, Bytes, Text, Any, Index, Unbuilt, End, One, Many, Table}
 use Rattle.schema_laws.proofs.Lists.{each_append, each_left, each_right}
 use Rattle.meaning.specs.Tree.{Tree, Natural, Integer, Boolean, Octets, Nil, Cons}
-use Rattle.meaning.specs.Tables.{Tables, IsSound, entry, same_table, has, place, with_new}
-use Rattle.meaning.specs.Meaning.{at_parts, at_each, walk_parts, walk_each, zero_value, uses}
+use Rattle.meaning.specs.Tables.{Tables, IsSound, entry, same_table, has, place, with_new, Distinct}
+use Rattle.meaning.specs.Meaning.{at_parts, at_each, walk_parts, walk_each, zero_value, resolve, uses}
 use Rattle.meaning.specs.Canonical.{HoldsForParts, HoldsForEach, IsWithin, Covers, zeros, tables_of, renumber, entries}
 use Rattle.meaning.proofs.Trees.{same-itself}
-use Rattle.meaning.proofs.Places.{each_all, place-lt, has-with_new, each_with_new}
+use Rattle.meaning.proofs.Places.{each_all, place-lt, has-with_new, each_with_new, distinct-map}
 use Rattle.meaning.proofs.Sound.{same_table-itself, each_here, entry_sound}
-use Rattle.meaning.proofs.Restores.{tables-cover}
+use Rattle.meaning.proofs.Restores.{covering, tables-cover, tables-distinct}
 
 -- ---- tables are closed
 
@@ -133,3 +133,14 @@ entries_within s i m T =
     each_map (IsWithin (entries (tables_of s m)) (entry T)) (renumber (tables_of s m) (entry T)) (tables_of s m T)
     (each_all (Covers (tables_of s m) (entry T)) (λ x. IsWithin (entries (tables_of s m)) (entry T) (renumber (tables_of s m) (entry T) x))
     (within (tables_of s m) (entry T)) (tables_of s m T) (tables-closed s i m T))
+
+-- ---- entries are distinct
+
+-- the entries of closed lists can be undone
+pub undone : (v : Tables) → ((T : Table) → Each (Covers v (entry T)) (v T)) → (T : Table) → Each (λ x. resolve (entries v) (entry T) (renumber v (entry T) x) ≡ x) (v T)
+undone v c T = each_all (Covers v (entry T)) (λ x. resolve (entries v) (entry T) (renumber v (entry T) x) ≡ x) (λ x h. covering v (entry T) (entry_sound T) x h) (v T) (c T)
+
+pub entries-distinct : (s : Shape) → IsSound s → (m : Tree) (T : Table) → Distinct (entries (tables_of s m) T)
+entries-distinct s i m T =
+    let v : Tables = tables_of s m in
+    distinct-map (renumber v (entry T)) (resolve (entries v) (entry T)) (v T) (undone v (tables-closed s i m) T) (tables-distinct s m T)

@@ -4,14 +4,14 @@ use mathlib.Core.Path.{fun_ext}
 use Rattle.schema.specs.Fits.{Each}
 use Rattle.schema.specs.Shape.{Shape, Index, Table}
 use Rattle.meaning.specs.Tree.{Tree, Integer}
-use Rattle.meaning.specs.Tables.{Tables, IsSound, entry, same_table, place, with_one, with_new}
+use Rattle.meaning.specs.Tables.{Tables, IsSound, entry, same_table, place, with_one, with_new, Distinct}
 use Rattle.meaning.specs.Meaning.{blank, zero_value, resolve, uses}
 use Rattle.meaning.specs.Canonical.{zeros, Covers, renumber, entries, values}
 use Rattle.meaning.specs.Steps.{Stands, Interned, Written}
-use Rattle.meaning.proofs.Places.{each_all, each_with_new, place-map, map-with_one, map-same, map-back, with_new-append}
+use Rattle.meaning.proofs.Places.{each_all, each_with_new, place-map, map-with_one, map-same, map-back, with_new-append, distinct-with_new}
 use Rattle.meaning.proofs.Sound.{same_table-itself, same_table-true, each_here, entry_sound}
 use Rattle.meaning.proofs.Restores.{covering}
-use Rattle.meaning.proofs.Closed.{zero-covered}
+use Rattle.meaning.proofs.Closed.{undone, zero-covered}
 use Rattle.meaning.proofs.Orders.{uses-index}
 use Rattle.meaning.proofs.Zero.{zeros_first, zero-had, renumber-zero}
 use Rattle.meaning.proofs.Grown.{Grown, grown_by, covers_grown, renumber-grown, written_covers}
@@ -22,19 +22,16 @@ use Rattle.meaning.proofs.Grown.{Grown, grown_by, covers_grown, renumber-grown, 
 abbrev pub Closed : Tables → Type 0
 Closed v = (T : Table) → Each (Covers v (entry T)) (v T)
 
-undone : (v : Tables) → Closed v → (T : Table) → Each (λ x. resolve (entries v) (entry T) (renumber v (entry T) x) ≡ x) (v T)
-undone v c T = each_all (Covers v (entry T)) (λ x. resolve (entries v) (entry T) (renumber v (entry T) x) ≡ x) (λ x h. covering v (entry T) (entry_sound T) x h) (v T) (c T)
-
 -- closed lists are the values behind their entries
 pub values-entries : (v : Tables) → Closed v → values (entries v) ≡ v
 values-entries v c = fun_ext (λ T. map-back (renumber v (entry T)) (resolve (entries v) (entry T)) (v T) (undone v c T))
 
 -- so their entries stand for them
-pub stands_for : (d v : Tables) → ((T : Table) → entries v T ≡ d T) → Closed v → (values d ≡ v) × Stands d
-stands_for d v e c =
+pub stands_for : (d v : Tables) → ((T : Table) → entries v T ≡ d T) → Closed v → ((T : Table) → Distinct (d T)) → (values d ≡ v) × Stands d
+stands_for d v e c u =
     let p : entries v ≡ d = fun_ext e in
     let q : values d ≡ v = ap values (sym p) ∙ values-entries v c in
-    (q, record { same = λ T. ap (λ z. entries z T) q ∙ e T; closed = subst (λ z. Closed z) (sym q) c })
+    (q, record { distinct = u; same = λ T. ap (λ z. entries z T) q ∙ e T; closed = subst (λ z. Closed z) (sym q) c })
 
 -- Values with equal entries are equal.
 pub written_apart : (v : Tables) (s : Shape) → IsSound s → (m n : Tree) → Covers v s m → Covers v s n → renumber v s m ≡ renumber v s n → m ≡ n
@@ -45,11 +42,12 @@ pub begins : (d : Tables) → ((T : Table) → d T ≡ blank (entry T) ∷ []) �
 begins d h = stands_for d zeros
     (λ T. ap (λ y. y ∷ []) (renumber-zero zeros zeros_first (entry T) (entry_sound T)) ∙ sym (h T))
     (λ T. (zero-covered zeros (zero-had zeros zeros_first) (entry T) (entry_sound T), tt))
+    (λ T. rw (h T) (refl, tt))
 
 -- ---- one more entry
 
 module _ (w k k' : Tables) (T : Table) (m x : Tree) (e : (U : Table) → entries w U ≡ k U) (c : Closed w)
-    (h : Covers w (entry T) m) (q : x ≡ renumber w (entry T) m) (i : Interned T x k k') where
+    (h : Covers w (entry T) m) (q : x ≡ renumber w (entry T) m) (i : Interned T x k k') (u : (U : Table) → Distinct (k U)) where
   -- the values then
   unfoldable next : Tables
   next U = with_new (w U) (cond (same_table U T) (m ∷ []) [])
@@ -100,16 +98,16 @@ module _ (w k k' : Tables) (T : Table) (m x : Tree) (e : (U : Table) → entries
       ∙ place-map (renumber next (entry T)) (resolve (entries next) (entry T)) (next T) m (undone next next-closed T) next-back
 
   next-stands : (values k' ≡ next) × Stands k'
-  next-stands = stands_for k' next next-entries next-closed
+  next-stands = stands_for k' next next-entries next-closed (λ U. rw (i U) (distinct-with_new (cond (same_table U T) (x ∷ []) []) (k U) (u U)))
 
 -- An entry whose fields were written goes into its table, and its place there is the index of its value.
 pub written_index : (v k k' : Tables) (T : Table) (m x : Tree) (j : ℕ) → Stands k → Written (entry T) v (values k) m x
     → Interned T x k k' → j ≡ place (k' T) x → Stands k' × Written (Index T (entry T)) v (values k') m (Integer (pos j))
 unfolding next
 written_index v k k' T m x j s r h p =
-    let n : Tables = next (values k) k k' T m x s.same s.closed (written_covers r) r.renumbered h in
-    let q : (values k' ≡ n) × Stands k' = next-stands (values k) k k' T m x s.same s.closed (written_covers r) r.renumbered h in
-    let z : place (k' T) x ≡ place (n T) m = next-place (values k) k k' T m x s.same s.closed (written_covers r) r.renumbered h in (
+    let n : Tables = next (values k) k k' T m x s.same s.closed (written_covers r) r.renumbered h s.distinct in
+    let q : (values k' ≡ n) × Stands k' = next-stands (values k) k k' T m x s.same s.closed (written_covers r) r.renumbered h s.distinct in
+    let z : place (k' T) x ≡ place (n T) m = next-place (values k) k k' T m x s.same s.closed (written_covers r) r.renumbered h s.distinct in (
       q.1,
       record {
         walked = λ U. ap (λ y. y U) q.0 ∙ ap (λ l. with_new l (cond (same_table U T) (m ∷ []) [])) (r.walked U)

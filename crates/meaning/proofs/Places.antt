@@ -1,10 +1,11 @@
 -- Places in lists of distinct values, and lists that gain values.
 use Rattle.std.proofs.Common.{◌≡◌, ℕ, zero, suc, ◌<◌, List, [], ◌∷◌, ◌++◌, length, get_or, map, Bool, true, false, cond, refl, sym, ap, ◌∙◌, arith}
+use Rattle.std.proofs.lemmas.Bool.{both_ways}
 use Rattle.std.proofs.lemmas.List.{append-nil, append_assoc}
 use Rattle.schema.specs.Fits.{Each}
 use Rattle.schema_laws.proofs.Lists.{each_append}
 use Rattle.meaning.specs.Tree.{Tree, same}
-use Rattle.meaning.specs.Tables.{has, place, with_one, with_new}
+use Rattle.meaning.specs.Tables.{has, place, with_one, with_new, Distinct}
 use Rattle.meaning.proofs.Trees.{same-itself, same-true}
 
 -- what holds of each element, where it follows from what holds
@@ -116,6 +117,45 @@ each_with_new P (t ∷ ts) ks h l = each_with_new P ts (with_one ks t) (by_test 
     by_test true = h
     by_test false = each_append P ks (t ∷ []) h (l.0, tt)
 
+-- ---- distinct values
+
+same-sym : (t u : Tree) → same t u ≡ false → same u t ≡ false
+same-sym t u h = by_test (same u t) refl
+  where
+    by_test : (b : Bool) → same u t ≡ b → b ≡ false
+    by_test false e = refl
+    by_test true e =
+        let i : u ≡ t = same-true u t e in
+        let k : same t u ≡ true = rw i (same-itself t) in cc
+
+-- a list has no value that neither it had nor came behind it
+has-neither : (ks : List Tree) (t x : Tree) → has ks x ≡ false → same t x ≡ false → has (ks ++ t ∷ []) x ≡ false
+has-neither [] t x h e = rw e refl
+has-neither (k ∷ ks) t x h e = by_test (same k x) h (has-neither ks t x)
+  where
+    by_test : (b : Bool) → cond b true (has ks x) ≡ false → (has ks x ≡ false → same t x ≡ false → has (ks ++ t ∷ []) x ≡ false) → cond b true (has (ks ++ t ∷ []) x) ≡ false
+    by_test true h r = h
+    by_test false h r = r h e
+
+distinct-push : (ks : List Tree) (t : Tree) → Distinct ks → has ks t ≡ false → Distinct (ks ++ t ∷ [])
+distinct-push [] t d h = (refl, tt)
+distinct-push (k ∷ ks) t d h = by_test (same k t) refl h (distinct-push ks t d.1)
+  where
+    by_test : (b : Bool) → same k t ≡ b → cond b true (has ks t) ≡ false → (has ks t ≡ false → Distinct (ks ++ t ∷ [])) → Distinct ((k ∷ ks) ++ t ∷ [])
+    by_test true e h r = absurd (both_ways true h refl)
+    by_test false e h r = (has-neither ks t k d.0 (same-sym k t e), r h)
+
+distinct-with_one : (ks : List Tree) (t : Tree) → Distinct ks → Distinct (with_one ks t)
+distinct-with_one ks t d = by_test (has ks t) refl
+  where
+    by_test : (b : Bool) → has ks t ≡ b → Distinct (cond b ks (ks ++ t ∷ []))
+    by_test true e = d
+    by_test false e = distinct-push ks t d e
+
+pub distinct-with_new : (ts ks : List Tree) → Distinct ks → Distinct (with_new ks ts)
+distinct-with_new [] ks d = d
+distinct-with_new (t ∷ ts) ks d = distinct-with_new ts (with_one ks t) (distinct-with_one ks t d)
+
 -- ---- a function that can be undone
 
 -- it keeps which values are the same
@@ -147,6 +187,11 @@ has-map f g (k ∷ ks) x h q =
     let e : same (f k) (f x) ≡ same k x = same-map f g k x h.0 q in
     let r : has (map f ks) (f x) ≡ has ks x = has-map f g ks x h.1 q in
     rw (e, r)
+
+-- and distinct values have distinct images
+pub distinct-map : (f g : Tree → Tree) (ks : List Tree) → Each (λ a. g (f a) ≡ a) ks → Distinct ks → Distinct (map f ks)
+distinct-map f g [] h d = tt
+distinct-map f g (k ∷ ks) h d = (has-map f g ks k h.1 h.0 ∙ d.0, distinct-map f g ks h.1 d.1)
 
 map-push : (f : Tree → Tree) (ks : List Tree) (x : Tree) → map f (ks ++ x ∷ []) ≡ map f ks ++ f x ∷ []
 map-push f [] x = refl

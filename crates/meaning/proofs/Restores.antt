@@ -1,15 +1,16 @@
 -- The canonical tables of a meaning resolve to it.
-use Rattle.std.proofs.Common.{◌≡◌, List, ◌++◌, get_or, map, true, cond, refl, sym, ap, ◌∙◌, subst, [], ◌∷◌, pos}
+use Rattle.std.proofs.Common.{◌≡◌, List, ◌++◌, get_or, map, Bool, true, false, cond, refl, sym, ap, ◌∙◌, subst, [], ◌∷◌, pos}
 use Rattle.std.proofs.lemmas.List.{get_or-map}
 use mathlib.Core.Path.{fun_ext}
 use Rattle.schema.specs.Fits.{Each}
 use Rattle.schema.specs.Shape.{Shape, Number, Fixed, Bytes, Text, Any, Index, Unbuilt, End, One, Many, Table}
 use Rattle.schema_laws.proofs.Lists.{each_left, each_right}
-use Rattle.meaning.specs.Tree.{Tree, Natural, Integer, Boolean, Octets, Nil, Cons}
-use Rattle.meaning.specs.Tables.{Tables, IsSound, entry, same_table, has, place}
+use Rattle.meaning.specs.Tree.{Tree, Natural, Integer, Boolean, Octets, Nil, Cons, same}
+use Rattle.meaning.specs.Tables.{Tables, IsSound, entry, same_table, has, place, Distinct}
 use Rattle.meaning.specs.Meaning.{at_parts, at_each, walk_parts, walk_each, blank, resolve, uses}
 use Rattle.meaning.specs.Canonical.{Covers, zeros, tables_of, renumber, entries}
-use Rattle.meaning.proofs.Places.{each_all, at_place, place-lt, all_in}
+use Rattle.meaning.proofs.Trees.{same-itself}
+use Rattle.meaning.proofs.Places.{each_all, at_place, place-lt, all_in, each_with_new, distinct-with_new}
 use Rattle.meaning.proofs.Sound.{same_table-itself}
 
 -- the entries d have the value x of the table T, renumbered, at its place in v
@@ -78,3 +79,26 @@ pub unique : (s : Shape) → IsSound s → (m n : Tree) → ((T : Table) → ent
 unique s i m n h e =
     sym (canonical s i m) ∙ ap (resolve (entries (tables_of s m)) s) e
     ∙ ap (λ d. resolve d s (renumber (tables_of s n) s n)) (fun_ext h) ∙ canonical s i n
+
+-- ---- each value once
+
+-- a list has each of its values
+has-each : (ts : List Tree) → Each (λ x. has ts x ≡ true) ts
+has-each [] = tt
+has-each (t ∷ ts) =
+    (rw (same-itself t) refl, each_all (λ x. has ts x ≡ true) (λ x. has (t ∷ ts) x ≡ true) (behind t ts) ts (has-each ts))
+  where
+    behind : (t : Tree) (ts : List Tree) (x : Tree) → has ts x ≡ true → has (t ∷ ts) x ≡ true
+    behind t ts x h = by_test (same t x)
+      where
+        by_test : (b : Bool) → cond b true (has ts x) ≡ true
+        by_test true = refl
+        by_test false = h
+
+pub tables-distinct : (s : Shape) (m : Tree) (T : Table) → Distinct (tables_of s m T)
+tables-distinct s m T = distinct-with_new (uses T s m) (zeros T) (refl, tt)
+
+pub tables-only : (s : Shape) (m : Tree) (T : Table) → Each (λ x. has (zeros T ++ uses T s m) x ≡ true) (tables_of s m T)
+tables-only s m T =
+    let h : Each (λ x. has (zeros T ++ uses T s m) x ≡ true) (zeros T ++ uses T s m) = has-each (zeros T ++ uses T s m) in
+    each_with_new (λ x. has (zeros T ++ uses T s m) x ≡ true) (uses T s m) (zeros T) (each_left (λ x. has (zeros T ++ uses T s m) x ≡ true) (zeros T) (uses T s m) h) (each_right (λ x. has (zeros T ++ uses T s m) x ≡ true) (zeros T) (uses T s m) h)

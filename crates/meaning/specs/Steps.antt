@@ -4,14 +4,15 @@ use Rattle.std.specs.List.{flat_map}
 use Rattle.schema.specs.Fits.{Each}
 use Rattle.schema.specs.Shape.{Shape, Index, One, Many, Table}
 use Rattle.meaning.specs.Tree.{Tree, Integer}
-use Rattle.meaning.specs.Tables.{Tables, entry, same_table, with_new}
+use Rattle.meaning.specs.Tables.{Tables, entry, same_table, with_new, Distinct}
 use Rattle.meaning.specs.Meaning.{resolve, uses}
 use Rattle.meaning.specs.Canonical.{zeros, renumber, entries, values, Covers}
 
 -- ---- entries
 
--- The entries stand for distinct values, each with all that it names.
+-- The entries are distinct and stand for values, each with all that it names.
 pub record Stands (d : Tables) : Type 0 where
+  pub distinct : (T : Table) → Distinct (d T)
   pub same : (T : Table) → entries (values d) T ≡ d T
   pub closed : (T : Table) → Each (Covers (values d) (entry T)) (values d T)
 

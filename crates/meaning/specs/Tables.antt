@@ -59,3 +59,8 @@ with_one ks t = cond (has ks t) ks (ks ++ t ∷ [])
 abbrev pub with_new : List Tree → List Tree → List Tree
 with_new ks [] = ks
 with_new ks (t ∷ ts) = with_new (with_one ks t) ts
+
+-- no value stands twice
+abbrev pub Distinct : List Tree → Type 0
+Distinct [] = Unit {0}
+Distinct (k ∷ ks) = (has ks k ≡ false) × Distinct ks

@@ -3,17 +3,17 @@
 //! no body, over all shapes at once.
 #![tactic(auto)]
 
-ghost use Rattle.std.specs.Prelude.{◌≡◌, ℕ, pos, List, ◌∷◌, ◌++◌, map, Ok};
+ghost use Rattle.std.specs.Prelude.{◌≡◌, ℕ, pos, List, ◌∷◌, ◌++◌, map, Ok, true};
 ghost use Rattle.schema.specs.Fits.{Each, Fits, Lawful};
 ghost use Rattle.schema.specs.Merge.{merge};
 ghost use Rattle.schema.specs.Shape.{IsMessage, Shape, Index, Table, Value, empty};
 ghost use Rattle.schema.specs.Messages.{profile, resource_profiles};
 ghost use Rattle.schema.specs.Spell.{items_text, long_field, spell};
 ghost use Rattle.meaning.specs.Tree.{Tree, Integer, tree, value, IsOf};
-ghost use Rattle.meaning.specs.Tables.{Tables, IsSound, entry};
-ghost use Rattle.meaning.specs.Meaning.{resolve, blank, zero_value, entry_at, HasZeros, filled, IsMeaning};
+ghost use Rattle.meaning.specs.Tables.{Tables, IsSound, entry, has, Distinct};
+ghost use Rattle.meaning.specs.Meaning.{resolve, uses, blank, zero_value, entry_at, HasZeros, filled, IsMeaning};
 ghost use Rattle.meaning.specs.Message.{dictionary, dictionary_value, message, meaning_of, tables_for, canonical_value, meaning_text, entry_text, record_text, dictionary_text};
-ghost use Rattle.meaning.specs.Canonical.{tables_of, visited_tables, renumber, entries, records, record_list, IsWithin, Covers};
+ghost use Rattle.meaning.specs.Canonical.{zeros, tables_of, visited_tables, renumber, entries, records, record_list, IsWithin, Covers};
 ghost use Rattle.meaning.specs.Steps.{Drafted};
 
 /// A value is the value of its tree.
@@ -39,6 +39,14 @@ pub fn indexes_in_tables()
     ensures records { (s : Shape) → (m : Tree) → let v = tables_of s m in IsWithin (entries v) s (renumber v s m) }
     ensures entries { (s : Shape) → IsSound s → (m : Tree) → (T : Table) → let v = tables_of s m in
         Each (IsWithin (entries v) (entry T)) (entries v T) }
+{}
+
+/// A table of a meaning has the zero value and each value that the walk meets, once and no other, and its entries differ.
+pub fn tables_hold_each_value_once()
+    ensures all { (s : Shape) → (m : Tree) → Covers (tables_of s m) s m }
+    ensures only { (s : Shape) → (m : Tree) → (T : Table) → Each (λ x. has (zeros T ++ uses T s m) x ≡ true) (tables_of s m T) }
+    ensures once { (s : Shape) → (m : Tree) → (T : Table) → Distinct (tables_of s m T) }
+    ensures entries { (s : Shape) → IsSound s → (m : Tree) → (T : Table) → Distinct (entries (tables_of s m) T) }
 {}
 
 /// Visiting each entry behind those that it names gives the same tables.
