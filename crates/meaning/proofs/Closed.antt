@@ -1,11 +1,11 @@
 -- Canonical tables have each value that their values name, and the indexes in them are within them.
-use Rattle.std.proofs.Common.{◌≡◌, ℕ, ◌<◌, List, [], ◌∷◌, ◌++◌, length, map, true, cond, refl, sym, ap, ◌∙◌, subst}
+use Rattle.std.proofs.Common.{◌≡◌, List, [], ◌∷◌, map, true, cond, sym, ap, ◌∙◌, subst}
 use Rattle.std.proofs.lemmas.List.{length-map}
 use Rattle.schema.specs.Fits.{Each}
-use Rattle.schema.specs.Shape.{Shape, Number, Fixed, Bytes, Text, Any, Index, Unbuilt, End, One, Many, Table}
+use Rattle.schema.specs.Shape.{Shape, Index, One, Many, Table}
 use Rattle.schema_laws.proofs.Lists.{each_append, each_left, each_right}
 use Rattle.meaning.specs.Tree.{Tree, Natural, Integer, Boolean, Octets, Nil, Cons}
-use Rattle.meaning.specs.Tables.{Tables, IsSound, entry, same_table, has, place, with_new, Distinct}
+use Rattle.meaning.specs.Tables.{Tables, IsSound, entry, same_table, has, Distinct}
 use Rattle.meaning.specs.Meaning.{at_parts, at_each, walk_parts, walk_each, zero_value, resolve, uses}
 use Rattle.meaning.specs.Canonical.{HoldsForParts, HoldsForEach, IsWithin, Covers, zeros, tables_of, renumber, entries}
 use Rattle.meaning.proofs.Trees.{same-itself}

@@ -3,9 +3,8 @@ use Rattle.std.proofs.Common.{◌≡◌, ℕ, zero, suc, List, [], ◌∷◌, �
 use mathlib.Core.Path.{fun_ext}
 use Rattle.std.proofs.lemmas.List.{length-map}
 use Rattle.std.specs.List.{flat_map}
-use Rattle.schema.specs.Fits.{Each}
-use Rattle.schema.specs.Shape.{Shape, End, Many, Table}
-use Rattle.meaning.specs.Tree.{Tree, Nil, Cons, listed}
+use Rattle.schema.specs.Shape.{Shape, End, Table}
+use Rattle.meaning.specs.Tree.{Tree, Nil}
 use Rattle.meaning.specs.Tables.{Tables, entry, with_new}
 use Rattle.meaning.specs.Meaning.{blank, uses, resolve}
 use Rattle.meaning.specs.Canonical.{Covers, zeros, tables_of, renumber, entries, values, records, record_list}

@@ -1,15 +1,15 @@
 -- Trees of values, and trees that are meanings.
-use Rattle.std.proofs.Common.{◌≡◌, ℕ, zero, suc, List, [], ◌∷◌, ◌++◌, get_or, map, cond, refl, sym, ap, ◌∙◌, subst, pos, negsuc}
+use Rattle.std.proofs.Common.{◌≡◌, ℕ, zero, suc, List, [], ◌∷◌, get_or, map, cond, refl, sym, ap, ◌∙◌, subst, pos, negsuc}
 use Rattle.schema.specs.Fits.{Each}
-use Rattle.schema.specs.Shape.{Shape, Number, Fixed, Bytes, Text, Any, Index, Unbuilt, End, One, Many, Table, Value, empty}
+use Rattle.schema.specs.Shape.{Shape, Index, One, Many, Table, Value, empty}
 use Rattle.schema_laws.proofs.Lists.{each_append}
 use Rattle.meaning.specs.Tree.{Tree, Natural, Integer, Boolean, Octets, Nil, Cons, listed, elements, tree, value, IsOf}
-use Rattle.meaning.specs.Tables.{Tables, IsSound, entry, same_table, with_new}
-use Rattle.meaning.specs.Meaning.{at_parts, at_each, walk_parts, walk_each, blank, zero_value, entry_at, resolve, uses, AreParts, AreElements, IsMeaning}
+use Rattle.meaning.specs.Tables.{Tables, IsSound, entry, same_table}
+use Rattle.meaning.specs.Meaning.{at_each, walk_each, blank, zero_value, entry_at, resolve, uses, AreParts, AreElements, IsMeaning}
 use Rattle.meaning.specs.Canonical.{zeros, tables_of, renumber, entries}
 use Rattle.meaning.proofs.Trees.{value-tree}
 use Rattle.meaning.proofs.Places.{each_all, each_with_new}
-use Rattle.meaning.proofs.Sound.{each_here, entry_sound}
+use Rattle.meaning.proofs.Sound.{each_here}
 use Rattle.meaning.proofs.Closed.{each_map}
 
 -- ---- cases

@@ -1,11 +1,11 @@
 -- Lists of values that grow: what was written stays written.
-use Rattle.std.proofs.Common.{◌≡◌, ℕ, List, [], ◌∷◌, ◌++◌, map, Bool, true, false, cond, ◌&&◌, refl, sym, ap, ◌∙◌, pos}
+use Rattle.std.proofs.Common.{◌≡◌, ℕ, List, [], ◌∷◌, ◌++◌, map, true, cond, refl, sym, ap, ◌∙◌, pos}
 use Rattle.std.proofs.lemmas.Bool.{and_parts}
 use Rattle.std.proofs.lemmas.Grind.{flat_map-append}
 use Rattle.std.proofs.lemmas.List.{map-append, append-nil}
 use Rattle.std.specs.List.{flat_map}
 use Rattle.schema.specs.Fits.{Each}
-use Rattle.schema.specs.Shape.{Shape, Number, Fixed, Bytes, Text, Any, Index, Unbuilt, End, One, Many, Table}
+use Rattle.schema.specs.Shape.{Shape, Index, One, Many, Table}
 use Rattle.schema_laws.proofs.Lists.{each_left, each_right}
 use Rattle.meaning.specs.Tree.{Tree, Natural, Integer, Boolean, Octets, Nil, Cons, listed}
 use Rattle.meaning.specs.Tables.{Tables, same_table, has, place, with_new}

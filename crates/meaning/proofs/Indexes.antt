@@ -1,14 +1,14 @@
 -- What code with tables and a memo shows at each index.
-use Rattle.std.proofs.Common.{◌≡◌, ℕ, zero, suc, ◌<◌, List, [], ◌∷◌, length, get_or, set, map, Option, Some, None, Bool, true, false, cond, ◌&&◌, refl, sym, ap, ◌∙◌, subst, arith, ⊎_elim, pos}
+use Rattle.std.proofs.Common.{◌≡◌, ℕ, zero, suc, ◌<◌, List, [], ◌∷◌, length, get_or, set, map, Option, Some, None, Bool, true, false, cond, refl, sym, ap, ◌∙◌, subst, arith, ⊎_elim, pos}
 use Rattle.std.proofs.lemmas.List.{length-set, get_or-set_other, get_or-map, length-map}
 use Rattle.std.proofs.lemmas.Grind.{get_or-set_at}
 use Rattle.std.proofs.lemmas.Bool.{cases_eq, and_parts, and_from}
 use Rattle.schema.specs.Fits.{Each}
-use Rattle.schema.specs.Shape.{Shape, Number, Fixed, Bytes, Text, Any, Index, Unbuilt, End, One, Many, Table}
+use Rattle.schema.specs.Shape.{Shape, Index, One, Many, Table}
 use Rattle.meaning.specs.Tree.{Tree, Integer}
-use Rattle.meaning.specs.Tables.{Tables, IsSound, entry, same_table, has, place, with_new}
-use Rattle.meaning.specs.Meaning.{blank, zero_value, entry_at, resolve, uses, HasZeros}
-use Rattle.meaning.specs.Canonical.{IsWithin, values}
+use Rattle.meaning.specs.Tables.{Tables, entry, same_table, has, place, with_new}
+use Rattle.meaning.specs.Meaning.{zero_value, resolve, uses, HasZeros}
+use Rattle.meaning.specs.Canonical.{values}
 use Rattle.meaning.specs.Steps.{Stands, Interned, Written, WrittenEach, is_plain, Memo, Ready, Noted}
 use Rattle.meaning.proofs.Places.{each_all, with_new-all}
 use Rattle.meaning.proofs.Sound.{same_table-true, entry_sound}

@@ -1,15 +1,15 @@
 -- An entry that goes into its table, with the index that it has there.
-use Rattle.std.proofs.Common.{◌≡◌, ℕ, List, [], ◌∷◌, ◌++◌, map, Bool, true, false, cond, refl, sym, ap, ◌∙◌, subst, pos}
+use Rattle.std.proofs.Common.{◌≡◌, ℕ, [], ◌∷◌, map, Bool, true, false, cond, refl, sym, ap, ◌∙◌, subst, pos}
 use mathlib.Core.Path.{fun_ext}
 use Rattle.schema.specs.Fits.{Each}
 use Rattle.schema.specs.Shape.{Shape, Index, Table}
 use Rattle.meaning.specs.Tree.{Tree, Integer}
 use Rattle.meaning.specs.Tables.{Tables, IsSound, entry, same_table, place, with_one, with_new, Distinct}
-use Rattle.meaning.specs.Meaning.{blank, zero_value, resolve, uses}
+use Rattle.meaning.specs.Meaning.{blank, resolve, uses}
 use Rattle.meaning.specs.Canonical.{zeros, Covers, renumber, entries, values}
 use Rattle.meaning.specs.Steps.{Stands, Interned, Written}
 use Rattle.meaning.proofs.Places.{each_all, each_with_new, place-map, map-with_one, map-same, map-back, with_new-append, distinct-with_new}
-use Rattle.meaning.proofs.Sound.{same_table-itself, same_table-true, each_here, entry_sound}
+use Rattle.meaning.proofs.Sound.{same_table-true, each_here, entry_sound}
 use Rattle.meaning.proofs.Restores.{covering}
 use Rattle.meaning.proofs.Closed.{undone, zero-covered}
 use Rattle.meaning.proofs.Orders.{uses-index}

@@ -1,19 +1,17 @@
 -- The canonical message of a meaning means it, and its bytes are read back.
-use Rattle.std.proofs.Common.{◌≡◌, ℕ, ◌+◌, ◌<◌, ◌^◌, List, [], ◌∷◌, ◌++◌, length, map, true, false, refl, sym, ap, ◌∙◌, arith, inl, inr, Ok, ⊎_elim}
+use Rattle.std.proofs.Common.{◌≡◌, ℕ, List, [], ◌∷◌, map, true, refl, sym, ap, ◌∙◌, arith, Ok, ⊎_elim}
 use mathlib.Core.Path.{fun_ext}
-use Rattle.std.proofs.lemmas.List.{length-append, append-nil}
-use Rattle.schema.specs.Fits.{Each, HasRow, Lawful, Fits, is_lawful}
+use Rattle.schema.specs.Fits.{Each, HasRow, Lawful, Fits}
 use Rattle.schema.specs.Merge.{merge}
-use Rattle.schema.specs.Shape.{Shape, End, One, Many, Value, empty, Table, Mappings, Locations, Functions, Links, Strings, Attributes, Stacks}
-use Rattle.schema.specs.Spell.{varint, varint_upto, long_field, bytes_field, items_text, spell, spell_many}
+use Rattle.schema.specs.Shape.{Shape, End, One, Value, empty, Table, Mappings, Locations, Functions, Links, Strings, Attributes, Stacks}
 use Rattle.schema_laws.proofs.Back.{reads_back}
 use Rattle.schema_laws.proofs.Lawful.{lawful_from}
 use Rattle.schema_laws.proofs.Lists.{each_left, each_right}
 use Rattle.schema_laws.proofs.ReadFits.{spelled_apart}
-use Rattle.meaning.specs.Tree.{Tree, Nil, Cons, listed, tree, value, IsOf}
+use Rattle.meaning.specs.Tree.{Tree, listed, tree, value, IsOf}
 use Rattle.meaning.specs.Tables.{Tables, IsSound, entry, has}
 use Rattle.meaning.specs.Meaning.{walk_each, resolve, uses, AreElements, IsMeaning}
-use Rattle.meaning.specs.Canonical.{Covers, renumber, entries, records, record_list}
+use Rattle.meaning.specs.Canonical.{renumber, entries, records, record_list}
 use Rattle.meaning.specs.Message.{dictionary, message, tables_in, meaning_of, dictionary_value, tables_for, canonical_value, meaning_text}
 use Rattle.meaning.proofs.Restores.{covering, tables-cover}
 use Rattle.meaning.proofs.Forms.{map-is, trees_are, resolved_means, renumbered_is, entries_are}

@@ -1,9 +1,9 @@
 -- The canonical tables of a meaning resolve to it.
-use Rattle.std.proofs.Common.{◌≡◌, List, ◌++◌, get_or, map, Bool, true, false, cond, refl, sym, ap, ◌∙◌, subst, [], ◌∷◌, pos}
+use Rattle.std.proofs.Common.{◌≡◌, List, ◌++◌, get_or, Bool, true, false, cond, refl, sym, ap, ◌∙◌, subst, [], ◌∷◌}
 use Rattle.std.proofs.lemmas.List.{get_or-map}
 use mathlib.Core.Path.{fun_ext}
 use Rattle.schema.specs.Fits.{Each}
-use Rattle.schema.specs.Shape.{Shape, Number, Fixed, Bytes, Text, Any, Index, Unbuilt, End, One, Many, Table}
+use Rattle.schema.specs.Shape.{Shape, Index, One, Many, Table}
 use Rattle.schema_laws.proofs.Lists.{each_left, each_right}
 use Rattle.meaning.specs.Tree.{Tree, Natural, Integer, Boolean, Octets, Nil, Cons, same}
 use Rattle.meaning.specs.Tables.{Tables, IsSound, entry, same_table, has, place, Distinct}

@@ -1,17 +1,17 @@
 -- The parts of canonical bytes.
-use Rattle.std.proofs.Common.{◌≡◌, ℕ, suc, ◌+◌, ◌<◌, List, [], ◌∷◌, ◌++◌, length, map, true, false, cond, eqb, refl, sym, ap, ◌∙◌, subst, arith}
+use Rattle.std.proofs.Common.{◌≡◌, ℕ, ◌<◌, List, [], ◌∷◌, ◌++◌, length, map, refl, sym, ap, ◌∙◌, arith}
 use Rattle.std.proofs.lemmas.Bool.{ne_eqb}
 use Rattle.std.proofs.lemmas.List.{length-append, append-nil}
 use Rattle.schema.specs.Fits.{Lawful, Fits}
 use Rattle.schema.specs.Shape.{Shape, End, One, Many, IsMessage, Table, Mappings, Locations, Functions, Links, Strings, Attributes, Stacks}
-use Rattle.schema.specs.Spell.{varint, varint_upto, long_field, bytes_field, items_text, spell, spell_many}
+use Rattle.schema.specs.Spell.{varint_upto, long_field, bytes_field, items_text, spell, spell_many}
 use Rattle.schema_laws.proofs.Lawful.{lawful_from}
 use Rattle.schema_laws.proofs.ReadFits.{spelled_apart}
 use Rattle.meaning.specs.Tree.{Tree, tree, value, octets_of, IsOf}
-use Rattle.meaning.specs.Tables.{Tables, entry, field_of}
+use Rattle.meaning.specs.Tables.{Tables, entry}
 use Rattle.meaning.specs.Meaning.{blank}
 use Rattle.meaning.specs.Canonical.{renumber, entries, records, record_list}
-use Rattle.meaning.specs.Message.{dictionary, message, dictionary_value, table_values, tables_for, canonical_value, meaning_text, entry_text, table_text, dictionary_text, record_text}
+use Rattle.meaning.specs.Message.{dictionary, dictionary_value, table_values, tables_for, meaning_text, entry_text, table_text, dictionary_text, record_text}
 use Rattle.meaning.proofs.Zero.{entries_first}
 
 map-map : {A B C : Type 0} (f : A → B) (g : B → C) (xs : List A) → map g (map f xs) ≡ map (λ x. g (f x)) xs

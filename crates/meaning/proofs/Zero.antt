@@ -1,9 +1,8 @@
 -- Zero values come first, and an empty table stands for its zero entry.
-use Rattle.std.proofs.Common.{◌≡◌, ℕ, zero, suc, List, [], ◌∷◌, ◌++◌, get_or, map, true, cond, refl, sym, ap, ◌∙◌, subst, pos, negsuc}
+use Rattle.std.proofs.Common.{◌≡◌, ℕ, zero, suc, List, [], ◌∷◌, ◌++◌, get_or, map, true, refl, sym, ap, ◌∙◌, subst, pos, negsuc}
 use mathlib.Core.Path.{fun_ext}
-use Rattle.schema.specs.Fits.{Each}
-use Rattle.schema.specs.Shape.{Shape, Number, Fixed, Bytes, Text, Any, Index, Unbuilt, End, One, Many, Table}
-use Rattle.meaning.specs.Tree.{Tree, Natural, Integer, Boolean, Octets, Nil, Cons, same}
+use Rattle.schema.specs.Shape.{Shape, Index, One, Many, Table}
+use Rattle.meaning.specs.Tree.{Tree, Natural, Integer, Boolean, Octets, Nil, Cons}
 use Rattle.meaning.specs.Tables.{Tables, IsSound, entry, has, place, with_new}
 use Rattle.meaning.specs.Meaning.{at_parts, at_each, blank, zero_value, entry_at, resolve, uses, or_blank, filled, HasZeros}
 use Rattle.meaning.specs.Canonical.{zeros, tables_of, renumber, entries}

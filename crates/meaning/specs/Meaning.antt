@@ -1,7 +1,7 @@
 -- What a message means: its values with each index replaced by the value of the entry that it names.
-use Rattle.std.specs.Prelude.{◌≡◌, ℕ, ℤ, pos, negsuc, List, [], ◌∷◌, ◌++◌, Bool, false, cond, get_or}
-use Rattle.schema.specs.Shape.{Shape, Number, Fixed, Bytes, Text, Any, Index, Unbuilt, End, One, Many, Table, empty}
-use Rattle.meaning.specs.Tree.{Tree, Natural, Integer, Boolean, Octets, Nil, Cons, tree, IsOf}
+use Rattle.std.specs.Prelude.{◌≡◌, pos, List, [], ◌∷◌, ◌++◌, cond, get_or}
+use Rattle.schema.specs.Shape.{Shape, Index, One, Many, Table, empty}
+use Rattle.meaning.specs.Tree.{Tree, Integer, Nil, Cons, tree, IsOf}
 use Rattle.meaning.specs.Tables.{Tables, entry, same_table}
 
 -- one function at the first row and one at the others; and a function at each element
