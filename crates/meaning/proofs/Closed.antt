@@ -23,6 +23,7 @@ Inside P T x = (U : Table) → Each (P U) (uses U (entry T) x)
 abbrev Brings : (Table → Tree → List Tree) → (Table → Tree → Type 0) → (Tree → Type 0) → Table → Type 0
 Brings w P Q T = (t : Tree) → ((U : Table) → Each (P U) (w U t)) → Each Q (w T t)
 
+-- so in a list
 each_brings : (w : Table → Tree → List Tree) (P : Table → Tree → Type 0) (Q : Tree → Type 0) (T : Table)
     → Brings w P Q T → Brings (λ U. walk_each (w U)) P Q T
 each_brings w P Q T b (Cons t ts) h =
@@ -33,6 +34,7 @@ each_brings w P Q T b (Boolean c) h = tt
 each_brings w P Q T b (Octets a) h = tt
 each_brings w P Q T b Nil h = tt
 
+-- and in rows
 parts_bring : (w w' : Table → Tree → List Tree) (P : Table → Tree → Type 0) (Q : Tree → Type 0) (T : Table)
     → Brings w P Q T → Brings w' P Q T → Brings (λ U. walk_parts (w U) (w' U)) P Q T
 parts_bring w w' P Q T b b' (Cons t ts) h =
@@ -72,6 +74,7 @@ zero-covered v h s i U =
     each_all (λ x. zero_value (entry U) ≡ x) (λ x. has (v U) x ≡ true)
     (λ x e. rw (← e) (h U)) (uses U s (zero_value s)) (zero_uses U s i)
 
+-- canonical tables have the zero values
 pub tables-have_zero : (s : Shape) (m : Tree) (T : Table) → has (tables_of s m T) (zero_value (entry T)) ≡ true
 tables-have_zero s m T = has-with_new (uses T s m) (zeros T) (zero_value (entry T)) (rw (same-itself (zero_value (entry T))))
 
@@ -88,6 +91,7 @@ tables-closed s i m T =
 abbrev Makes : (Tree → Tree) → (Table → Tree → List Tree) → (Table → Tree → Type 0) → (Tree → Type 0) → Type 0
 Makes g w P Q = (t : Tree) → ((U : Table) → Each (P U) (w U t)) → Q (g t)
 
+-- so in a list
 each_makes : (g : Tree → Tree) (w : Table → Tree → List Tree) (P : Table → Tree → Type 0) (Q : Tree → Type 0)
     → Makes g w P Q → Makes (at_each g) (λ U. walk_each (w U)) P (HoldsForEach Q)
 each_makes g w P Q q (Cons t ts) h = (q t (λ U. each_left (P U) (w U t) _ (h U)), each_makes g w P Q q ts (λ U. each_right (P U) (w U t) _ (h U)))
@@ -97,6 +101,7 @@ each_makes g w P Q q (Boolean b) h = tt
 each_makes g w P Q q (Octets a) h = tt
 each_makes g w P Q q Nil h = tt
 
+-- and in rows
 parts_make : (g g' : Tree → Tree) (w w' : Table → Tree → List Tree) (P : Table → Tree → Type 0) (Q Q' : Tree → Type 0)
     → Makes g w P Q → Makes g' w' P Q' → Makes (at_parts g g') (λ U. walk_parts (w U) (w' U)) P (HoldsForParts Q Q')
 parts_make g g' w w' P Q Q' q q' (Cons t ts) h = (q t (λ U. each_left (P U) (w U t) _ (h U)), q' ts (λ U. each_right (P U) (w U t) _ (h U)))
@@ -124,9 +129,11 @@ pub each_map : {X Y : Type 0} (P : Y → Type 0) (f : X → Y) (xs : List X) →
 each_map P f [] h = tt
 each_map P f (x ∷ xs) h = (h.0, each_map P f xs h.1)
 
+-- so those of the records are within the canonical tables
 pub record_within : (s : Shape) (m : Tree) → IsWithin (entries (tables_of s m)) s (renumber (tables_of s m) s m)
 record_within s m = within (tables_of s m) s m (tables-cover s m)
 
+-- and so are those of each entry
 pub entries_within : (s : Shape) → IsSound s → (m : Tree) (T : Table)
     → Each (IsWithin (entries (tables_of s m)) (entry T)) (entries (tables_of s m) T)
 entries_within s i m T =
@@ -140,6 +147,7 @@ entries_within s i m T =
 pub undone : (v : Tables) → ((T : Table) → Each (Covers v (entry T)) (v T)) → (T : Table) → Each (λ x. resolve (entries v) (entry T) (renumber v (entry T) x) ≡ x) (v T)
 undone v c T = each_all (Covers v (entry T)) (λ x. resolve (entries v) (entry T) (renumber v (entry T) x) ≡ x) (λ x h. covering v (entry T) (entry_sound T) x h) (v T) (c T)
 
+-- so the entries of distinct values are distinct
 pub entries-distinct : (s : Shape) → IsSound s → (m : Tree) (T : Table) → Distinct (entries (tables_of s m) T)
 entries-distinct s i m T =
     let v : Tables = tables_of s m in

@@ -34,6 +34,7 @@ ends s k m x h r =
     let e : values k ≡ tables_of s m = fun_ext r.walked in
     ((λ T. sym (h.same T) ∙ ap (λ z. entries z T) e), r.renumbered ∙ ap (λ z. renumber z s m) e)
 
+-- so a draft has the canonical entries and records of its meanings
 pub draft_canonical : (s : Shape) (k : Tables) (ms xs : List Tree) → Drafted s k ms xs
     → ((T : Table) → k T ≡ entries (tables_of (records s) (record_list ms)) T) × (record_list xs ≡ renumber (tables_of (records s) (record_list ms)) (records s) (record_list ms))
 draft_canonical s k ms xs r =
@@ -42,11 +43,13 @@ draft_canonical s k ms xs r =
 
 -- ---- going back
 
+-- the front of two lists
 take-append : (ks ls : List Tree) → take (length ks) (ks ++ ls) ≡ ks
 take-append [] [] = refl
 take-append [] (l ∷ ls) = refl
 take-append (k ∷ ks) ls = ap (λ l. k ∷ l) (take-append ks ls)
 
+-- cutting before and behind a map
 take-map : (f : Tree → Tree) (n : ℕ) (xs : List Tree) → take n (map f xs) ≡ map f (take n xs)
 take-map f zero xs = refl
 take-map f (suc n) [] = refl

@@ -34,9 +34,11 @@ by_elements X P n f Nil h = n
 
 -- ---- trees of values
 
+-- the tree of a value is one
 pub tree_is : (s : Shape) (x : Value s) → IsOf s (tree s x)
 tree_is s x = ap (tree s) (value-tree s x)
 
+-- and so are those of a list
 pub trees_are : (s : Shape) (xs : List (Value s)) → Each (IsOf s) (map (tree s) xs)
 trees_are s [] = tt
 trees_are s (x ∷ xs) = (tree_is s x, trees_are s xs)
@@ -114,6 +116,7 @@ uses_mean T (Index U k) i t h =
     (uses_mean T k i.1 t h)
 uses_mean T s i t h = tt
 
+-- a zero value is a meaning
 zero_means : (s : Shape) → IsMeaning s (zero_value s)
 zero_means (One n k rest) = (zero_means k, zero_means rest)
 zero_means (Many n k rest) = (refl, zero_means rest)

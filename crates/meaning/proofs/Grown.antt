@@ -20,15 +20,18 @@ pub record Grown (v w : Tables) : Type 0 where
   pub keeps : (T : Table) (x : Tree) → has (v T) x ≡ true → has (w T) x ≡ true
   pub places : (T : Table) (x : Tree) → has (v T) x ≡ true → place (w T) x ≡ place (v T) x
 
+-- lists that stay as they are
 pub same_grown : (v : Tables) → Grown v v
 same_grown v = record { keeps = λ T x h. h; places = λ T x h. refl }
 
+-- lists that gain values
 pub grown_by : (v w : Tables) (us : Table → List Tree) → ((T : Table) → w T ≡ with_new (v T) (us T)) → Grown v w
 grown_by v w us h = record {
   keeps = λ T x i. rw (h T) (has-with_new (us T) (v T) x i);
   places = λ T x i. rw (h T) (place-with_new (us T) (v T) x i);
 }
 
+-- what was covered stays so
 pub covers_grown : {v w : Tables} → Grown v w → (s : Shape) (t : Tree) → Covers v s t → Covers w s t
 covers_grown {v} {w} g s t h T = each_all (λ x. has (v T) x ≡ true) (λ x. has (w T) x ≡ true) (g.keeps T) (uses T s t) (h T)
 
@@ -38,6 +41,7 @@ covers_grown {v} {w} g s t h T = each_all (λ x. has (v T) x ≡ true) (λ x. ha
 abbrev Agrees : (Tree → Tree) → (Tree → Tree) → (Table → Tree → List Tree) → (Table → Tree → Type 0) → Type 0
 Agrees f g w P = (t : Tree) → ((T : Table) → Each (P T) (w T t)) → f t ≡ g t
 
+-- so at lists
 each_agrees : (f g : Tree → Tree) (w : Table → Tree → List Tree) (P : Table → Tree → Type 0)
     → Agrees f g w P → Agrees (at_each f) (at_each g) (λ T. walk_each (w T)) P
 each_agrees f g w P a (Cons t ts) h =
@@ -50,6 +54,7 @@ each_agrees f g w P a (Boolean b) h = refl
 each_agrees f g w P a (Octets o) h = refl
 each_agrees f g w P a Nil h = refl
 
+-- and at rows
 parts_agree : (f g f' g' : Tree → Tree) (w w' : Table → Tree → List Tree) (P : Table → Tree → Type 0)
     → Agrees f g w P → Agrees f' g' w' P → Agrees (at_parts f f') (at_parts g g') (λ T. walk_parts (w T) (w' T)) P
 parts_agree f g f' g' w w' P a a' (Cons t ts) h =
@@ -104,10 +109,12 @@ written_row {n} {k} {rest} {v} {w} {u} {m} {ms} {x} {xs} r s = record {
 
 -- ---- lists
 
+-- a walk of the tree of a list
 walk-listed : (w : Tree → List Tree) (ts : List Tree) → walk_each w (listed ts) ≡ flat_map w ts
 walk-listed w [] = refl
 walk-listed w (t ∷ ts) = ap (λ l. w t ++ l) (walk-listed w ts)
 
+-- and a function at its elements
 each-listed : (f : Tree → Tree) (ts : List Tree) → at_each f (listed ts) ≡ listed (map f ts)
 each-listed f [] = refl
 each-listed f (t ∷ ts) = ap (Cons (f t)) (each-listed f ts)
@@ -121,6 +128,7 @@ kept-each s v w g (m ∷ ms) h =
     let r : map (renumber w s) ms ≡ map (renumber v s) ms = kept-each s v w g ms (λ T. each_right (λ x. has (v T) x ≡ true) (uses T s m) _ (h T)) in
     cc
 
+-- the lists behind cover each element, and have grown
 pub each_covers : {s : Shape} {v w : Tables} {ms xs : List Tree} → WrittenEach s v w ms xs → (T : Table) → Each (λ x. has (w T) x ≡ true) (flat_map (uses T s) ms)
 each_covers {s} {v} {w} {ms} r T = rw (r.walked T) (all_in (flat_map (uses T s) ms) (v T))
 
@@ -170,6 +178,7 @@ written_rows {n} {k} {rest} {v} {w} {u} {ms} {xs} {m} {x} r s = record {
 
 -- ---- values without indexes
 
+-- a function that changes no element
 plain_each : (f : Tree → Tree) → ((t : Tree) → f t ≡ t) → (t : Tree) → at_each f t ≡ t
 plain_each f h (Cons t ts) = let e : f t ≡ t = h t in let r : at_each f ts ≡ ts = plain_each f h ts in cc
 plain_each f h (Natural n) = refl
@@ -178,6 +187,7 @@ plain_each f h (Boolean b) = refl
 plain_each f h (Octets o) = refl
 plain_each f h Nil = refl
 
+-- and functions that change no row
 plain_parts : (f g : Tree → Tree) → ((t : Tree) → f t ≡ t) → ((t : Tree) → g t ≡ t) → (t : Tree) → at_parts f g t ≡ t
 plain_parts f g h i (Cons t ts) = let e : f t ≡ t = h t in let r : g ts ≡ ts = i ts in cc
 plain_parts f g h i (Natural n) = refl
@@ -186,6 +196,7 @@ plain_parts f g h i (Boolean b) = refl
 plain_parts f g h i (Octets o) = refl
 plain_parts f g h i Nil = refl
 
+-- renumbering changes nothing where there is no index
 pub renumber-plain : (v : Tables) (s : Shape) → is_plain s ≡ true → (t : Tree) → renumber v s t ≡ t
 renumber-plain v (One n k rest) h t =
     let p = and_parts (is_plain k) (is_plain rest) h in

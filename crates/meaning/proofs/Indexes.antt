@@ -20,6 +20,7 @@ use Rattle.meaning.proofs.Interned.{written_index}
 
 -- ---- an index that was met before
 
+-- it is written as what the memo holds, and adds nothing
 pub met_before : {d k : Tables} {memo : Memo} → Ready d k memo → (T : Table) (i j : ℕ) → i < length (d T) → get_or (memo T) i None ≡ Some j
     → Written (Index T (entry T)) (values k) (values k) (resolve d (Index T (entry T)) (Integer (pos i))) (Integer (pos j))
 met_before r T i j l e = r.kept T i j (rw (r.all T) l) e
@@ -92,6 +93,7 @@ pub zero_written : (d v : Tables) → HasZeros d → ZerosFirst v → (T : Table
 zero_written d v h g T =
     subst (λ m. Written (Index T (entry T)) v v m (Integer (pos 0))) (sym (blank-resolves d h (Index T (entry T)) (refl, entry_sound T))) (written_zero v g T)
 
+-- a shape without indexes names no entry of any table
 plain-avoids : (T : Table) (s : Shape) → is_plain s ≡ true → avoids T s ≡ true
 plain-avoids T (One n k rest) h =
     let p = and_parts (is_plain k) (is_plain rest) h in and_from _ _ (plain-avoids T k p.0) (plain-avoids T rest p.1)

@@ -46,6 +46,7 @@ begins d h = stands_for d zeros
 
 -- ---- one more entry
 
+-- The values w have the entries k and are closed and cover m; the entry x of m goes into k, which becomes k'.
 module _ (w k k' : Tables) (T : Table) (m x : Tree) (e : (U : Table) → entries w U ≡ k U) (c : Closed w)
     (h : Covers w (entry T) m) (q : x ≡ renumber w (entry T) m) (i : Interned T x k k') (u : (U : Table) → Distinct (k U)) where
   -- the values then

@@ -18,6 +18,7 @@ use Rattle.meaning.proofs.Forms.{map-is, trees_are, resolved_means, renumbered_i
 
 -- ---- meanings
 
+-- a list of meanings as a tree
 listed_mean : (k : Shape) (ms : List Tree) → Each (IsMeaning k) ms → AreElements (IsMeaning k) (listed ms)
 listed_mean k [] h = refl
 listed_mean k (m ∷ ms) h = (h.0, listed_mean k ms h.1)
@@ -63,6 +64,7 @@ means-back k i v (m ∷ ms) h c =
     means-back k i v ms h.1 (λ T. each_right (λ x. has (v T) x ≡ true) (uses T k m) _ (c T)) in
     cc
 
+-- so the canonical message of meanings means them
 pub means_the_same : (k : Shape) → IsSound k → (ms : List Tree) → Each (IsMeaning k) ms → meaning_of k (canonical_value k ms) ≡ ms
 means_the_same k i ms h =
     let v : Tables = tables_for k ms in
@@ -73,6 +75,7 @@ means_the_same k i ms h =
 
 -- ---- bytes
 
+-- a message of lawful records is lawful
 message_lawful : (k : Shape) → Lawful k → Lawful (message k)
 message_lawful k h = (omega arith, omega arith, h, lawful_from (One 2 dictionary End) refl, tt, distinct)
   where

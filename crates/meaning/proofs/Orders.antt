@@ -29,14 +29,17 @@ entry_avoids Stacks = refl
 
 -- ---- walks that agree
 
+-- at lists
 each_agree : (w z : Tree → List Tree) → ((t : Tree) → w t ≡ z t) → (t : Tree) → walk_each w t ≡ walk_each z t
 each_agree w z h t = ap (λ f. walk_each f t) (fun_ext h)
 
+-- and at rows
 parts_agree : (w z w' z' : Tree → List Tree) → ((t : Tree) → w t ≡ z t) → ((t : Tree) → w' t ≡ z' t) → (t : Tree) → walk_parts w w' t ≡ walk_parts z z' t
 parts_agree w z w' z' h i t = ap (λ f. walk_parts f w' t) (fun_ext h) ∙ ap (λ f. walk_parts z f t) (fun_ext i)
 
 -- ---- walks that meet nothing
 
+-- at lists
 each_none : (t : Tree) → walk_each (λ x. []) t ≡ []
 each_none (Cons t ts) = each_none ts
 each_none (Natural n) = refl
@@ -45,6 +48,7 @@ each_none (Boolean b) = refl
 each_none (Octets a) = refl
 each_none Nil = refl
 
+-- and at rows
 parts_none : (t : Tree) → walk_parts (λ x. []) (λ x. []) t ≡ []
 parts_none (Cons t ts) = refl
 parts_none (Natural n) = refl
@@ -84,6 +88,7 @@ uses-index T U k e t = by_test (same_table T U) refl
         let n : uses T k t ≡ [] = subst (λ z. uses T z t ≡ []) a (uses_none T (entry T) (entry_avoids T) t) in
         rw n refl
 
+-- so both orders meet the same values of each table, in the same order
 pub visits-uses : (T : Table) (s : Shape) → IsSound s → (t : Tree) → visits T s t ≡ uses T s t
 visits-uses T (One n k rest) i t = parts_agree (visits T k) (uses T k) (visits T rest) (uses T rest) (visits-uses T k i.0) (visits-uses T rest i.1) t
 visits-uses T (Many n k rest) i t =
@@ -93,5 +98,6 @@ visits-uses T (Index U k) i t =
     ap (λ l. l ++ cond (same_table T U) (t ∷ []) []) (visits-uses T k i.1 t) ∙ sym (uses-index T U k i.0 t)
 visits-uses T s i t = refl
 
+-- and give the same tables
 pub orders_agree : (s : Shape) → IsSound s → (m : Tree) (T : Table) → visited_tables s m T ≡ tables_of s m T
 orders_agree s i m T = ap (with_new (zeros T)) (visits-uses T s i m)

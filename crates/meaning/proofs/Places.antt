@@ -61,6 +61,7 @@ has-push (k ∷ ks) t = by_test (same k t) (has-push ks t)
 
 -- ---- one more value, and more of them
 
+-- a list keeps what it has
 pub has-with_one : (ks : List Tree) (t x : Tree) → has ks x ≡ true → has (with_one ks t) x ≡ true
 has-with_one ks t x h = by_test (has ks t)
   where
@@ -68,6 +69,7 @@ has-with_one ks t x h = by_test (has ks t)
     by_test true = h
     by_test false = has-append ks (t ∷ []) x h
 
+-- and has what it gains
 pub has-one : (ks : List Tree) (t : Tree) → has (with_one ks t) t ≡ true
 has-one ks t = by_test (has ks t) refl
   where
@@ -119,6 +121,7 @@ each_with_new P (t ∷ ts) ks h l = each_with_new P ts (with_one ks t) (by_test 
 
 -- ---- distinct values
 
+-- the test of equality goes both ways
 same-sym : (t u : Tree) → same t u ≡ false → same u t ≡ false
 same-sym t u h = by_test (same u t) refl
   where
@@ -137,6 +140,7 @@ has-neither (k ∷ ks) t x h e = by_test (same k x) h (has-neither ks t x)
     by_test true h r = h
     by_test false h r = r h e
 
+-- a new value behind distinct ones
 distinct-push : (ks : List Tree) (t : Tree) → Distinct ks → has ks t ≡ false → Distinct (ks ++ t ∷ [])
 distinct-push [] t d h = (refl, tt)
 distinct-push (k ∷ ks) t d h = by_test (same k t) refl h (distinct-push ks t d.1)
@@ -145,6 +149,7 @@ distinct-push (k ∷ ks) t d h = by_test (same k t) refl h (distinct-push ks t d
     by_test true e h r = absurd (both_ways true h refl)
     by_test false e h r = (has-neither ks t k d.0 (same-sym k t e), r h)
 
+-- so a list stays distinct with one more value
 distinct-with_one : (ks : List Tree) (t : Tree) → Distinct ks → Distinct (with_one ks t)
 distinct-with_one ks t d = by_test (has ks t) refl
   where
@@ -152,6 +157,7 @@ distinct-with_one ks t d = by_test (has ks t) refl
     by_test true e = d
     by_test false e = distinct-push ks t d e
 
+-- and with more of them
 pub distinct-with_new : (ts ks : List Tree) → Distinct ks → Distinct (with_new ks ts)
 distinct-with_new [] ks d = d
 distinct-with_new (t ∷ ts) ks d = distinct-with_new ts (with_one ks t) (distinct-with_one ks t d)
@@ -181,6 +187,7 @@ place-map f g (k ∷ ks) x h q =
     let r : place (map f ks) (f x) ≡ place ks x = place-map f g ks x h.1 q in
     rw (e, r)
 
+-- and which values a list has
 has-map : (f g : Tree → Tree) (ks : List Tree) (x : Tree) → Each (λ a. g (f a) ≡ a) ks → g (f x) ≡ x → has (map f ks) (f x) ≡ has ks x
 has-map f g [] x h q = refl
 has-map f g (k ∷ ks) x h q =
@@ -193,6 +200,7 @@ pub distinct-map : (f g : Tree → Tree) (ks : List Tree) → Each (λ a. g (f a
 distinct-map f g [] h d = tt
 distinct-map f g (k ∷ ks) h d = (has-map f g ks k h.1 h.0 ∙ d.0, distinct-map f g ks h.1 d.1)
 
+-- the image of a list with one more value
 map-push : (f : Tree → Tree) (ks : List Tree) (x : Tree) → map f (ks ++ x ∷ []) ≡ map f ks ++ f x ∷ []
 map-push f [] x = refl
 map-push f (k ∷ ks) x = ap (λ l. f k ∷ l) (map-push f ks x)
@@ -205,10 +213,12 @@ map-with_one f g ks x h q = rw (has-map f g ks x h q) (by_test (has ks x))
     by_test true = refl
     by_test false = map-push f ks x
 
+-- functions that are the same at each element
 pub map-same : {X Y : Type 0} (f g : X → Y) (xs : List X) → Each (λ x. f x ≡ g x) xs → map f xs ≡ map g xs
 map-same f g [] h = refl
 map-same f g (x ∷ xs) h = let e : f x ≡ g x = h.0 in let r : map f xs ≡ map g xs = map-same f g xs h.1 in cc
 
+-- a map that is undone
 pub map-back : (f g : Tree → Tree) (xs : List Tree) → Each (λ x. g (f x) ≡ x) xs → map g (map f xs) ≡ xs
 map-back f g [] h = refl
 map-back f g (x ∷ xs) h = let e : g (f x) ≡ x = h.0 in let r : map g (map f xs) ≡ xs = map-back f g xs h.1 in cc

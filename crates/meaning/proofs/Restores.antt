@@ -21,6 +21,7 @@ Kept d v T x = get_or (d T) (place (v T) x) (blank (entry T)) ≡ renumber v (en
 abbrev Undoes : (Tree → Tree) → (Tree → Tree) → (Table → Tree → List Tree) → (Table → Tree → Type 0) → Type 0
 Undoes f g w P = (t : Tree) → ((T : Table) → Each (P T) (w T t)) → f (g t) ≡ t
 
+-- so at lists
 each_restores : (f g : Tree → Tree) (w : Table → Tree → List Tree) (P : Table → Tree → Type 0)
     → Undoes f g w P → Undoes (at_each f) (at_each g) (λ T. walk_each (w T)) P
 each_restores f g w P u (Cons t ts) h =
@@ -33,6 +34,7 @@ each_restores f g w P u (Boolean b) h = refl
 each_restores f g w P u (Octets a) h = refl
 each_restores f g w P u Nil h = refl
 
+-- and at rows
 parts_restore : (f g f' g' : Tree → Tree) (w w' : Table → Tree → List Tree) (P : Table → Tree → Type 0)
     → Undoes f g w P → Undoes f' g' w' P → Undoes (at_parts f f') (at_parts g g') (λ T. walk_parts (w T) (w' T)) P
 parts_restore f g f' g' w w' P u u' (Cons t ts) h =
@@ -60,6 +62,7 @@ restores d v (Index U k) i t h =
     ap (resolve d k) there ∙ restores d v k i.1 t (λ T. each_right (Kept d v T) (cond (same_table T U) (t ∷ []) []) _ (h T))
 restores d v s i t h = refl
 
+-- the entries of lists keep each value that these have
 kept : (v : Tables) (T : Table) (x : Tree) → has (v T) x ≡ true → Kept (entries v) v T x
 kept v T x h = get_or-map (renumber v (entry T)) (v T) (place (v T) x) x (blank (entry T)) (place-lt (v T) x h) ∙ ap (renumber v (entry T)) (at_place (v T) x x h)
 
@@ -67,9 +70,11 @@ kept v T x h = get_or-map (renumber v (entry T)) (v T) (place (v T) x) x (blank 
 pub covering : (v : Tables) (s : Shape) → IsSound s → (t : Tree) → Covers v s t → resolve (entries v) s (renumber v s t) ≡ t
 covering v s i t h = restores (entries v) v s i t (λ T. each_all (λ x. has (v T) x ≡ true) (Kept (entries v) v T) (kept v T) (uses T s t) (h T))
 
+-- the canonical tables of a meaning cover it
 pub tables-cover : (s : Shape) (m : Tree) → Covers (tables_of s m) s m
 tables-cover s m T = all_in (uses T s m) (zeros T)
 
+-- so it is restored from them
 pub canonical : (s : Shape) → IsSound s → (m : Tree) → resolve (entries (tables_of s m)) s (renumber (tables_of s m) s m) ≡ m
 canonical s i m = covering (tables_of s m) s i m (tables-cover s m)
 
@@ -95,9 +100,11 @@ has-each (t ∷ ts) =
         by_test true = refl
         by_test false = h
 
+-- canonical tables have no value twice
 pub tables-distinct : (s : Shape) (m : Tree) (T : Table) → Distinct (tables_of s m T)
 tables-distinct s m T = distinct-with_new (uses T s m) (zeros T) (refl, tt)
 
+-- and none but the zero value and what the walk meets
 pub tables-only : (s : Shape) (m : Tree) (T : Table) → Each (λ x. has (zeros T ++ uses T s m) x ≡ true) (tables_of s m T)
 tables-only s m T =
     let h : Each (λ x. has (zeros T ++ uses T s m) x ≡ true) (zeros T ++ uses T s m) = has-each (zeros T ++ uses T s m) in

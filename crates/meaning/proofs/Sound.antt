@@ -9,6 +9,7 @@ use Rattle.meaning.specs.Tables.{IsSound, entry, field_of, same_table}
 
 -- ---- tables
 
+-- a table is itself
 pub same_table-itself : (T : Table) → same_table T T ≡ true
 same_table-itself Mappings = refl
 same_table-itself Locations = refl
@@ -18,6 +19,7 @@ same_table-itself Strings = refl
 same_table-itself Attributes = refl
 same_table-itself Stacks = refl
 
+-- the table of a field number
 table_at : ℕ → Table
 table_at (suc (suc zero)) = Locations
 table_at (suc (suc (suc zero))) = Functions
@@ -27,6 +29,7 @@ table_at (suc (suc (suc (suc (suc (suc zero)))))) = Attributes
 table_at (suc (suc (suc (suc (suc (suc (suc n))))))) = Stacks
 table_at n = Mappings
 
+-- undoes a table's field number
 table_at-field : (T : Table) → table_at (field_of T) ≡ T
 unfolding table_at
 table_at-field Mappings = refl
@@ -37,6 +40,7 @@ table_at-field Strings = refl
 table_at-field Attributes = refl
 table_at-field Stacks = refl
 
+-- tables that pass the test are the same
 pub same_table-true : (T U : Table) → same_table T U ≡ true → T ≡ U
 same_table-true T U h = sym (table_at-field T) ∙ ap table_at (eqb-true (field_of T) (field_of U) h) ∙ table_at-field U
 
@@ -50,6 +54,7 @@ each_here P T U t h = by_test (same_table T U) refl
 
 -- ---- shapes
 
+-- the shapes of the schema, each after those that it names
 string_sound : IsSound string
 string_sound = (refl, tt)
 
@@ -78,6 +83,7 @@ entry_sound Strings = tt
 entry_sound Attributes = attribute_sound
 entry_sound Stacks = stack_sound
 
+-- profiles, and what holds them
 pub profile_sound : IsSound profile
 profile_sound = (
   (string_sound, (string_sound, tt)),

@@ -9,6 +9,7 @@ use Rattle.meaning.specs.Tree.{Tree, Natural, Integer, Boolean, Octets, Nil, Con
 
 -- ---- values
 
+-- numbers
 number_back : (w : Format) (v : NumberValue w) → number_of w (number_tree w v) ≡ v
 number_back U32 v = refl
 number_back U64 v = refl
@@ -16,6 +17,7 @@ number_back I32 v = refl
 number_back I64 v = refl
 number_back Flag v = refl
 
+-- the elements of the tree of a list
 pub elements-listed : (ts : List Tree) → elements (listed ts) ≡ ts
 elements-listed [] = refl
 elements-listed (t ∷ ts) = ap (λ l. t ∷ l) (elements-listed ts)
@@ -25,6 +27,7 @@ map-undone : {A B : Type 0} (f : A → B) (g : B → A) → ((x : A) → g (f x)
 map-undone f g h [] = refl
 map-undone f g h (x ∷ xs) = let e : g (f x) ≡ x = h x in let r : map g (map f xs) ≡ xs = map-undone f g h xs in cc
 
+-- the value of the tree of a value
 pub value-tree : (s : Shape) (v : Value s) → value s (tree s v) ≡ v
 value-tree (Number w) v = number_back w v
 value-tree Fixed v = refl
@@ -46,6 +49,7 @@ value-tree (Many n k rest) v =
 
 -- ---- the test of equality
 
+-- the test of flags
 beq-itself : (b : Bool) → beq b b ≡ true
 beq-itself true = refl
 beq-itself false = refl
@@ -56,6 +60,7 @@ beq-true false false h = refl
 beq-true true false h = cc
 beq-true false true h = cc
 
+-- a tree is itself
 pub same-itself : (t : Tree) → same t t ≡ true
 same-itself (Natural n) = eq-eqb n n refl
 same-itself (Integer z) = (Decides-int_eq z z).1 refl
@@ -64,6 +69,7 @@ same-itself (Octets a) = (bytes_eq-Decides a a).1 refl
 same-itself Nil = refl
 same-itself (Cons t ts) = and_from _ _ (same-itself t) (same-itself ts)
 
+-- trees that pass the test are the same
 pub same-true : (t u : Tree) → same t u ≡ true → t ≡ u
 same-true (Natural m) (Natural n) h = ap Natural (eqb-true m n h)
 same-true (Integer x) (Integer y) h = ap Integer ((Decides-int_eq x y).0 h)

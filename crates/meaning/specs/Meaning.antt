@@ -87,6 +87,7 @@ abbrev pub or_blank : List Tree → Shape → List Tree
 or_blank [] k = blank k ∷ []
 or_blank (e ∷ es) k = e ∷ es
 
+-- each empty table of a dictionary is so
 abbrev pub filled : Tables → Tables
 filled d T = or_blank (d T) (entry T)
 

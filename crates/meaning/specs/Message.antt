@@ -36,6 +36,7 @@ meaning_of k x = map (λ r. resolve (tables_in x.1.0) k (tree k r)) x.0
 
 -- ---- the canonical message of a meaning
 
+-- the entries of a table, and a dictionary of all of them
 abbrev pub table_values : Tables → (T : Table) → List (Value (entry T))
 table_values d T = map (value (entry T)) (d T)
 
@@ -77,6 +78,7 @@ entry_text T e = spell (entry T) (value (entry T) e)
 abbrev pub table_text : Table → List Tree → List ℕ
 table_text T es = items_text (field_of T) (map (entry_text T) es)
 
+-- a dictionary with all its tables
 abbrev pub dictionary_text : Tables → List ℕ
 dictionary_text d =
     table_text Mappings (d Mappings) ++ (table_text Locations (d Locations) ++ (table_text Functions (d Functions)

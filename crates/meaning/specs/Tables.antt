@@ -24,6 +24,7 @@ field_of Strings = 5
 field_of Attributes = 6
 field_of Stacks = 7
 
+-- the test of equality
 abbrev pub same_table : Table → Table → Bool
 same_table T U = field_of T == field_of U
 

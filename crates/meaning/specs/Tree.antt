@@ -16,6 +16,7 @@ pub data Tree : Type 0 where
 
 -- ---- the tree of a value
 
+-- the tree of a number
 abbrev pub number_tree : (w : Format) → NumberValue w → Tree
 number_tree U32 n = Natural n
 number_tree U64 n = Natural n
@@ -43,6 +44,7 @@ tree (Many n k rest) v = Cons (listed (map (tree k) v.0)) (tree rest v.1)
 
 -- ---- and back; a tree of another form stands for defaults
 
+-- the value in a leaf
 abbrev pub natural_of : Tree → ℕ
 natural_of (Natural n) = n
 natural_of t = 0
@@ -59,6 +61,7 @@ abbrev pub octets_of : Tree → List ℕ
 octets_of (Octets b) = b
 octets_of t = []
 
+-- the number of a tree
 abbrev pub number_of : (w : Format) → Tree → NumberValue w
 number_of U32 t = natural_of t
 number_of U64 t = natural_of t
@@ -99,6 +102,7 @@ IsOf s t = tree s (value s t) ≡ t
 
 -- ---- the test of equality
 
+-- whether two trees are equal
 abbrev pub same : Tree → Tree → Bool
 same (Natural m) (Natural n) = m == n
 same (Integer x) (Integer y) = int_eq x y
