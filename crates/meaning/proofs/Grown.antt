@@ -115,7 +115,7 @@ walk-listed w [] = refl
 walk-listed w (t ∷ ts) = ap (λ l. w t ++ l) (walk-listed w ts)
 
 -- and a function at its elements
-each-listed : (f : Tree → Tree) (ts : List Tree) → at_each f (listed ts) ≡ listed (map f ts)
+pub each-listed : (f : Tree → Tree) (ts : List Tree) → at_each f (listed ts) ≡ listed (map f ts)
 each-listed f [] = refl
 each-listed f (t ∷ ts) = ap (Cons (f t)) (each-listed f ts)
 
@@ -179,7 +179,7 @@ written_rows {n} {k} {rest} {v} {w} {u} {ms} {xs} {m} {x} r s = record {
 -- ---- values without indexes
 
 -- a function that changes no element
-plain_each : (f : Tree → Tree) → ((t : Tree) → f t ≡ t) → (t : Tree) → at_each f t ≡ t
+pub plain_each : (f : Tree → Tree) → ((t : Tree) → f t ≡ t) → (t : Tree) → at_each f t ≡ t
 plain_each f h (Cons t ts) = let e : f t ≡ t = h t in let r : at_each f ts ≡ ts = plain_each f h ts in cc
 plain_each f h (Natural n) = refl
 plain_each f h (Integer z) = refl
@@ -188,7 +188,7 @@ plain_each f h (Octets o) = refl
 plain_each f h Nil = refl
 
 -- and functions that change no row
-plain_parts : (f g : Tree → Tree) → ((t : Tree) → f t ≡ t) → ((t : Tree) → g t ≡ t) → (t : Tree) → at_parts f g t ≡ t
+pub plain_parts : (f g : Tree → Tree) → ((t : Tree) → f t ≡ t) → ((t : Tree) → g t ≡ t) → (t : Tree) → at_parts f g t ≡ t
 plain_parts f g h i (Cons t ts) = let e : f t ≡ t = h t in let r : g ts ≡ ts = i ts in cc
 plain_parts f g h i (Natural n) = refl
 plain_parts f g h i (Integer z) = refl

@@ -12,3 +12,4 @@ pub mod Drafts
 pub mod Forms
 pub mod Message
 pub mod Texts
+pub mod Rows

@@ -13,6 +13,11 @@ pub each_all : {X : Type 0} (P Q : X → Type 0) → ((x : X) → P x → Q x) �
 each_all P Q f [] h = tt
 each_all P Q f (x ∷ xs) h = (f x h.0, each_all P Q f xs h.1)
 
+-- two maps one after the other
+pub map-map : {A B C : Type 0} (f : A → B) (g : B → C) (xs : List A) → map g (map f xs) ≡ map (λ x. g (f x)) xs
+map-map f g [] = refl
+map-map f g (x ∷ xs) = ap (λ l. g (f x) ∷ l) (map-map f g xs)
+
 -- ---- places
 
 -- a value that a list has stands at its place

@@ -12,12 +12,8 @@ use Rattle.meaning.specs.Tables.{Tables, entry}
 use Rattle.meaning.specs.Meaning.{blank}
 use Rattle.meaning.specs.Canonical.{renumber, entries, records, record_list}
 use Rattle.meaning.specs.Message.{dictionary, dictionary_value, table_values, tables_for, meaning_text, entry_text, table_text, dictionary_text, record_text}
+use Rattle.meaning.proofs.Places.{map-map}
 use Rattle.meaning.proofs.Zero.{entries_first}
-
--- two maps one after the other
-map-map : {A B C : Type 0} (f : A → B) (g : B → C) (xs : List A) → map g (map f xs) ≡ map (λ x. g (f x)) xs
-map-map f g [] = refl
-map-map f g (x ∷ xs) = ap (λ l. g (f x) ∷ l) (map-map f g xs)
 
 -- ---- the dictionary
 

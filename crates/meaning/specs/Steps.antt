@@ -2,8 +2,8 @@
 use Rattle.std.specs.Prelude.{◌≡◌, ℕ, pos, ◌<◌, List, [], ◌∷◌, Bool, true, false, ◌&&◌, cond, Option, Some, None, length, map, get_or, set}
 use Rattle.std.specs.List.{flat_map}
 use Rattle.schema.specs.Fits.{Each}
-use Rattle.schema.specs.Shape.{Shape, Index, One, Many, Table}
-use Rattle.meaning.specs.Tree.{Tree, Integer}
+use Rattle.schema.specs.Shape.{Shape, Index, One, Many, Table, Value}
+use Rattle.meaning.specs.Tree.{Tree, Integer, tree}
 use Rattle.meaning.specs.Tables.{Tables, entry, same_table, with_new, Distinct}
 use Rattle.meaning.specs.Meaning.{resolve, uses}
 use Rattle.meaning.specs.Canonical.{zeros, renumber, entries, values, Covers}
@@ -31,6 +31,14 @@ pub record Written (s : Shape) (v w : Tables) (m x : Tree) : Type 0 where
 pub record WrittenEach (s : Shape) (v w : Tables) (ms xs : List Tree) : Type 0 where
   pub walked : (T : Table) → w T ≡ with_new (v T) (flat_map (uses T s) ms)
   pub renumbered : xs ≡ map (renumber w s) ms
+
+-- A value x of a message with the dictionary d becomes y: what x means is written as y.
+abbrev pub Becomes : (d : Tables) (s : Shape) (v w : Tables) → Value s → Value s → Type 0
+Becomes d s v w x y = Written s v w (resolve d s (tree s x)) (tree s y)
+
+-- the same of lists of values
+abbrev pub BecomeEach : (d : Tables) (s : Shape) (v w : Tables) → List (Value s) → List (Value s) → Type 0
+BecomeEach d s v w xs ys = WrittenEach s v w (map (λ x. resolve d s (tree s x)) xs) (map (tree s) ys)
 
 -- a shape without indexes, whose values are written as they are
 abbrev pub is_plain : Shape → Bool
