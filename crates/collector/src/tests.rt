@@ -149,10 +149,10 @@ fn answers(rt: HostRuntime) -> Result<(), Fail> {
             2,
             "IN: zero entry of string table is not zero\n",
         ),
-        // A profile's duration isn't read yet.
+        // A profile's sample type isn't read yet.
         silent_row(
             "canon IN OUT",
-            &[0x0A, 6, 0x12, 4, 0x12, 2, 0x20, 1],
+            &[0x0A, 6, 0x12, 4, 0x12, 2, 0x0A, 0],
             2,
             "IN: not built at 6\n",
         ),
@@ -223,19 +223,16 @@ fn answers(rt: HostRuntime) -> Result<(), Fail> {
     Ok(())
 }
 
-// A message of so many empty profiles of one scope, whose lengths are spelled with four bytes each.
-fn profiles(alloc: Global, count: u32) -> Result<Vec<u8>, AllocError>
-    requires { count < 2 ^ 26 }
+// A message of one profile with an original payload of so many bytes, with lengths that are spelled with four bytes each.
+fn with_payload(alloc: Global, len: u32) -> Result<Vec<u8>, AllocError>
+    requires { len < 2 ^ 26 }
 {
     let mut bytes = Vec::new(alloc);
-    let scope = count * 2;
-    bytes.push(0x0A)?;
-    bytes.extend_from_slice(&four_bytes(scope + 5))?;
-    bytes.push(0x12)?;
-    bytes.extend_from_slice(&four_bytes(scope))?;
-    for _ in 0..count {
-        bytes.extend_from_slice(&[0x12, 0])?;
+    for (tag, inner) in [(0x0A, 15), (0x12, 10), (0x12, 5), (0x52, 0)] {
+        bytes.push(tag)?;
+        bytes.extend_from_slice(&four_bytes(len + inner))?;
     }
+    bytes.extend_from_slice(&vec![in alloc; 0u8; len as usize]?)?;
     Ok(bytes)
 }
 
@@ -251,12 +248,18 @@ fn four_bytes(value: u32) -> [u8; 4]
     ]
 }
 
-// The limit is 33,554,432 bytes, both of what is read and of what is written.
+// The limit is 33,554,432 bytes, both of what is read and of what is written. The dictionary adds 16.
 #[test]
 fn limits(rt: HostRuntime) -> Result<(), Fail> {
     let alloc = rt.alloc();
-    let whole = profiles(alloc, 16_777_211)?;
-    assert_eq!(rt; whole.len(), 33_554_432);
+    let large = with_payload(alloc, 20_000_000)?;
+    let left = run_row(alloc, &silent_row("canon IN OUT", &large, 0, ""))?;
+    assert_eq!(rt; left.status, 0);
+    assert_eq!(rt;
+        left.out.as_slice(),
+        b"wrote OUT, 20000036 bytes\n".as_slice()
+    );
+    let mut whole = with_payload(alloc, 33_554_412)?;
     let left = run_row(alloc, &silent_row("canon IN OUT", &whole, 0, ""))?;
     assert_eq!(rt; left.status, 5);
     assert_eq!(rt;
@@ -264,9 +267,8 @@ fn limits(rt: HostRuntime) -> Result<(), Fail> {
         b"output limit: 33554448 bytes\n".as_slice()
     );
     assert_eq!(rt; left.out.len(), 0);
-    let mut long = whole;
-    long.push(0)?;
-    let left = run_row(alloc, &silent_row("canon IN OUT", &long, 0, ""))?;
+    whole.push(0)?;
+    let left = run_row(alloc, &silent_row("canon IN OUT", &whole, 0, ""))?;
     assert_eq!(rt; left.status, 2);
     assert_eq!(rt;
         left.err.as_slice(),

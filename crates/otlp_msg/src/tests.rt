@@ -43,8 +43,8 @@ fn refuses(rt: HostRuntime) -> Result<(), Fail> {
             b"\x12\x03\x2a\x01x",
             "zero entry of string table is not zero",
         ),
-        // A profile's duration, and a mapping's beginning and end.
-        (b"\x0a\x06\x12\x04\x12\x02\x20\x01", "not built at 6"),
+        // A profile's sample type, and a mapping's beginning and end.
+        (b"\x0a\x06\x12\x04\x12\x02\x0a\x00", "not built at 6"),
         (b"\x12\x06\x0a\x04\x08\x05\x10\x06", "not built at 4"),
     ] {
         assert_refused(&rt, alloc, body, want)?;
@@ -120,6 +120,15 @@ fn accepts(rt: HostRuntime) -> Result<(), Fail> {
         (
             b"\x0a\x06\x12\x04\x12\x02\x22\x00",
             b"\x0a\x04\x12\x02\x12\x00",
+            1,
+        ),
+        // The plain fields of a profile in another order: the last payload and the last duration win, of the count the low 32
+        // bits are read, and a time that is a varint is skipped.
+        (
+            b"\x0a\x30\x12\x2e\x12\x2c\x52\x01\x00\x4a\x00\x4a\x01x\x40\x87\x80\x80\x80\x10\x3a\x02\x01\x02\
+            \x30\xff\xff\xff\xff\xff\xff\xff\xff\xff\x01\x20\x01\x20\x05\x18\x01\x19\x01\x00\x00\x00\x00\x00\x00\x00",
+            b"\x0a\x26\x12\x24\x12\x22\x19\x01\x00\x00\x00\x00\x00\x00\x00\x20\x05\
+            \x30\xff\xff\xff\xff\xff\xff\xff\xff\xff\x01\x3a\x02\x01\x02\x40\x07\x4a\x01x\x52\x01\x00",
             1,
         ),
         // A dictionary in two pieces is joined.

@@ -1,0 +1,133 @@
+-- What code with tables and a memo shows at each index.
+use Rattle.std.proofs.Common.{◌≡◌, ℕ, zero, suc, ◌<◌, List, [], ◌∷◌, length, get_or, set, map, Option, Some, None, Bool, true, false, cond, refl, sym, ap, ◌∙◌, subst, arith, ⊎_elim, pos}
+use Rattle.std.proofs.lemmas.List.{length-set, get_or-set_other, get_or-map, length-map}
+use Rattle.std.proofs.lemmas.Grind.{get_or-set_at}
+use Rattle.std.proofs.lemmas.Bool.{cases_eq, and_parts, and_from}
+use Rattle.schema.specs.Fits.{Each}
+use Rattle.schema.specs.Shape.{Shape, Index, One, Many, Table}
+use Rattle.meaning.specs.Tree.{Tree, Integer}
+use Rattle.meaning.specs.Tables.{Tables, entry, same_table, has, place, with_new}
+use Rattle.meaning.specs.Meaning.{zero_value, resolve, uses, HasZeros}
+use Rattle.meaning.specs.Canonical.{values}
+use Rattle.meaning.specs.Steps.{Stands, Interned, Written, WrittenEach, is_plain, Memo, Ready, Noted}
+use Rattle.meaning.proofs.Places.{each_all, with_new-all}
+use Rattle.meaning.proofs.Sound.{same_table-true, entry_sound}
+use Rattle.meaning.proofs.Closed.{zero_uses}
+use Rattle.meaning.proofs.Orders.{avoids, uses_none}
+use Rattle.meaning.proofs.Zero.{ZerosFirst, zero-place, zero-had, blank-resolves}
+use Rattle.meaning.proofs.Grown.{same_grown, written_grown, written_again, renumber-plain, written_none, written_single, written_append}
+use Rattle.meaning.proofs.Interned.{written_index}
+
+-- ---- an index that was met before
+
+-- it is written as what the memo holds, and adds nothing
+pub met_before : {d k : Tables} {memo : Memo} → Ready d k memo → (T : Table) (i j : ℕ) → i < length (d T) → get_or (memo T) i None ≡ Some j
+    → Written (Index T (entry T)) (values k) (values k) (resolve d (Index T (entry T)) (Integer (pos i))) (Integer (pos j))
+met_before r T i j l e = r.kept T i j (rw (r.all T) l) e
+
+-- ---- an index that is met for the first time
+
+-- the index i of the dictionary d is written as j, and adds nothing to the values v
+abbrev Known : Tables → Tables → Table → ℕ → ℕ → Type 0
+Known d v T i j = Written (Index T (entry T)) v v (resolve d (Index T (entry T)) (Integer (pos i))) (Integer (pos j))
+
+-- W holds of each pair of a list that has j at i now
+kept_set : (W : ℕ → ℕ → Type 0) (memo : List (Option ℕ)) (i j : ℕ)
+    → ((a b : ℕ) → a < length memo → get_or memo a None ≡ Some b → W a b) → W i j
+    → (a b : ℕ) → a < length (set memo i (Some j)) → get_or (set memo i (Some j)) a None ≡ Some b → W a b
+kept_set W memo i j h r a b l e =
+    ⊎_elim (λ (p : a ≡ i).
+    let q : get_or (set memo i (Some j)) a None ≡ Some j = get_or-set_at memo i a (Some j) None p (rw (← p, ← length-set {A = Option ℕ} memo i (Some j)) l) in
+    let s : j ≡ b = cc in
+    rw (p, ← s) r)
+    (λ (p : a ≡ i → ⊥). h a b (rw length-set at l) (sym (get_or-set_other memo i a (Some j) None p) ∙ e))
+    (cases_eq a i)
+
+-- Its entry was written, went into its table, and the memo has its place there.
+pub met_first : (d v k k' : Tables) (memo memo' : Memo) (T : Table) (i j : ℕ) (x : Tree) → Ready d k memo
+    → Written (entry T) v (values k) (resolve d (Index T (entry T)) (Integer (pos i))) x
+    → Interned T x k k' → j ≡ place (k' T) x → Noted T i j memo memo'
+    → Ready d k' memo' × Written (Index T (entry T)) v (values k') (resolve d (Index T (entry T)) (Integer (pos i))) (Integer (pos j))
+met_first d v k k' memo memo' T i j x r s h p n =
+    let w : Tables = values k in
+    let u : Tables = values k' in
+    let m : Tree = resolve d (Index T (entry T)) (Integer (pos i)) in
+    let here : Stands k' × Written (Index T (entry T)) v u m (Integer (pos j)) = written_index v k k' T m x j r.stands s h p in
+    let alone : Stands k' × Written (Index T (entry T)) w u m (Integer (pos j)) = written_index w k k' T m x j r.stands (written_again s (same_grown w)) h p in
+    let now : Written (Index T (entry T)) u u m (Integer (pos j)) = written_again alone.1 (same_grown u) in (
+      record {
+        stands = here.0;
+        kept = λ U. kept_now U (same_table U T) refl
+            (λ a b l e. written_again (r.kept U a b l e) (written_grown alone.1)) now (n U);
+        all = λ U. length_now U (same_table U T) (n U);
+      },
+      here.1,
+    )
+  where
+    kept_now : (U : Table) (t : Bool) → same_table U T ≡ t
+        → ((a b : ℕ) → a < length (memo U) → get_or (memo U) a None ≡ Some b → Known d (values k') U a b)
+        → Known d (values k') T i j
+        → memo' U ≡ cond t (set (memo U) i (Some j)) (memo U)
+        → (a b : ℕ) → a < length (memo' U) → get_or (memo' U) a None ≡ Some b → Known d (values k') U a b
+    kept_now U false f h o q = rw q h
+    kept_now U true f h o q = rw q (kept_set (Known d (values k') U) (memo U) i j h (subst (λ V. Known d (values k') V i j) (sym (same_table-true U T f)) o))
+
+    length_now : (U : Table) (t : Bool) → memo' U ≡ cond t (set (memo U) i (Some j)) (memo U) → length (memo' U) ≡ length (d U)
+    length_now U false q = rw q (r.all U)
+    length_now U true q = rw (q, length-set) (r.all U)
+
+-- ---- the index 0, and values without indexes
+
+-- a zero value is the index 0 of lists that begin with the zero values, and adds nothing
+pub written_zero : (v : Tables) → ZerosFirst v → (T : Table) → Written (Index T (entry T)) v v (zero_value (entry T)) (Integer (pos 0))
+written_zero v h T = record {
+  walked = λ U. sym (with_new-all (uses U (Index T (entry T)) (zero_value (entry T))) (v U)
+      (each_all (λ x. zero_value (entry U) ≡ x) (λ x. has (v U) x ≡ true) (λ x e. rw (← e) (zero-had v h U))
+      (uses U (Index T (entry T)) (zero_value (entry T))) (zero_uses U (Index T (entry T)) (refl, entry_sound T))));
+  renumbered = ap (λ j. Integer (pos j)) (sym (zero-place v h T));
+}
+
+-- so the index 0 stays 0, also where the table is empty
+pub zero_written : (d v : Tables) → HasZeros d → ZerosFirst v → (T : Table)
+    → Written (Index T (entry T)) v v (resolve d (Index T (entry T)) (Integer (pos 0))) (Integer (pos 0))
+zero_written d v h g T =
+    subst (λ m. Written (Index T (entry T)) v v m (Integer (pos 0))) (sym (blank-resolves d h (Index T (entry T)) (refl, entry_sound T))) (written_zero v g T)
+
+-- a shape without indexes names no entry of any table
+plain-avoids : (T : Table) (s : Shape) → is_plain s ≡ true → avoids T s ≡ true
+plain-avoids T (One n k rest) h =
+    let p = and_parts (is_plain k) (is_plain rest) h in and_from _ _ (plain-avoids T k p.0) (plain-avoids T rest p.1)
+plain-avoids T (Many n k rest) h =
+    let p = and_parts (is_plain k) (is_plain rest) h in and_from _ _ (plain-avoids T k p.0) (plain-avoids T rest p.1)
+plain-avoids T (Index U k) h = cc
+plain-avoids T s h = refl
+
+-- a value without indexes is written as it is
+pub written_plain : (s : Shape) → is_plain s ≡ true → (v : Tables) (m : Tree) → Written s v v m m
+written_plain s h v m = record {
+  walked = λ T. sym (ap (with_new (v T)) (uses_none T s (plain-avoids T s h) m));
+  renumbered = sym (renumber-plain v s h m);
+}
+
+-- and so is a list of such values
+pub written_plains : (s : Shape) → is_plain s ≡ true → (v : Tables) (ms : List Tree) → WrittenEach s v v ms ms
+written_plains s h v [] = written_none s v
+written_plains s h v (m ∷ ms) = written_append (written_single (written_plain s h v m)) (written_plains s h v ms)
+
+-- ---- reading tables
+
+-- what stands at an index of a list, by any default
+pub read_at : {X : Type 0} (xs : List X) (i : ℕ) (d x : X) → i < length xs → x ≡ get_or xs i x → get_or xs i d ≡ x
+read_at [] i d x l e = absurd (omega arith)
+read_at (y ∷ ys) zero d x l e = sym e
+read_at (y ∷ ys) (suc i) d x l e = read_at ys i d x (omega arith) e
+
+-- and its image in the mapped list
+pub read_map : {X : Type 0} (f : X → Tree) (xs : List X) (i : ℕ) (d : Tree) (x : X) → i < length (map f xs) → x ≡ get_or xs i x → f x ≡ get_or (map f xs) i d
+read_map f xs i d x l e = ap f e ∙ sym (get_or-map f xs i x d (rw length-map at l))
+
+-- what holds of each element holds of the one at an index
+pub each_at : {X : Type 0} (P : X → Type 0) (xs : List X) (i : ℕ) (x : X) → i < length xs → x ≡ get_or xs i x → Each P xs → P x
+each_at P [] i x l e h = absurd (omega arith)
+each_at P (y ∷ ys) zero x l e h = rw e h.0
+each_at P (y ∷ ys) (suc i) x l e h = each_at P ys i x (omega arith) e h.1

@@ -1,0 +1,15 @@
+pub mod Trees
+pub mod Places
+pub mod Sound
+pub mod Restores
+pub mod Closed
+pub mod Orders
+pub mod Zero
+pub mod Grown
+pub mod Interned
+pub mod Indexes
+pub mod Drafts
+pub mod Forms
+pub mod Message
+pub mod Texts
+pub mod Rows

@@ -1,0 +1,5 @@
+use Rattle.meaning.proofs.Restores.{unique}
+use Rattle.meaning.proofs.canonical_is_unique.Goals as goal
+
+pub returns : goal.returns
+returns c = unique

@@ -1,0 +1,5 @@
+use Rattle.meaning.proofs.Restores.{canonical}
+use Rattle.meaning.proofs.canonical_resolves.Goals as goal
+
+pub returns : goal.returns
+returns c = canonical

@@ -1,0 +1,5 @@
+use Rattle.meaning.proofs.Zero.{filled-resolves}
+use Rattle.meaning.proofs.empty_tables_hold_zero.Goals as goal
+
+pub returns : goal.returns
+returns c = filled-resolves

@@ -1,0 +1,67 @@
+-- The tables of a dictionary: what their entries are, and lists by table.
+use Rattle.std.specs.Prelude.{◌≡◌, ℕ, suc, List, [], ◌∷◌, ◌++◌, Bool, true, false, cond, ◌==◌}
+use Rattle.schema.specs.Shape.{Shape, Text, Index, Unbuilt, One, Many, Table, Mappings, Locations, Functions, Links, Strings, Attributes, Stacks}
+use Rattle.schema.specs.Messages.{mapping, location, function, link, attribute, stack}
+use Rattle.meaning.specs.Tree.{Tree, same}
+
+-- the shape of a table's entries
+abbrev pub entry : Table → Shape
+entry Mappings = mapping
+entry Locations = location
+entry Functions = function
+entry Links = link
+entry Strings = Text
+entry Attributes = attribute
+entry Stacks = stack
+
+-- the number of a table's field in the dictionary
+abbrev pub field_of : Table → ℕ
+field_of Mappings = 1
+field_of Locations = 2
+field_of Functions = 3
+field_of Links = 4
+field_of Strings = 5
+field_of Attributes = 6
+field_of Stacks = 7
+
+-- the test of equality
+abbrev pub same_table : Table → Table → Bool
+same_table T U = field_of T == field_of U
+
+-- each index of the shape has the shape of its table's entries
+abbrev pub IsSound : Shape → Type 0
+IsSound (Index T k) = (k ≡ entry T) × IsSound k
+IsSound (Unbuilt k) = IsSound k
+IsSound (One n k rest) = IsSound k × IsSound rest
+IsSound (Many n k rest) = IsSound k × IsSound rest
+IsSound s = Unit {0}
+
+-- lists by table: the entries of a dictionary, or the values behind them
+abbrev pub Tables : Type 0
+Tables = Table → List Tree
+
+-- ---- lists of distinct values
+
+-- the list has the value
+abbrev pub has : List Tree → Tree → Bool
+has [] t = false
+has (k ∷ ks) t = cond (same k t) true (has ks t)
+
+-- the first place of a value in a list, and its length where it has none
+abbrev pub place : List Tree → Tree → ℕ
+place [] t = 0
+place (k ∷ ks) t = cond (same k t) 0 (suc (place ks t))
+
+-- the list with a value behind it that is new to it
+abbrev pub with_one : List Tree → Tree → List Tree
+with_one ks t = cond (has ks t) ks (ks ++ t ∷ [])
+
+-- the list with values behind it, each only where it is new by then
+abbrev pub with_new : List Tree → List Tree → List Tree
+with_new ks [] = ks
+with_new ks (t ∷ ts) = with_new (with_one ks t) ts
+
+-- no value stands twice
+abbrev pub Distinct : List Tree → Type 0
+Distinct [] = Unit {0}
+Distinct (k ∷ ks) = (has ks k ≡ false) × Distinct ks

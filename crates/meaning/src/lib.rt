@@ -1,0 +1,137 @@
+//! What a Profiles message means when every index is replaced by the value of its entry, and the canonical tables of a
+//! meaning. The definitions are in `specs/`, by recursion on a message's shape; each law stands on a public function with
+//! no body, over all shapes at once.
+#![tactic(auto)]
+
+ghost use Rattle.std.specs.Prelude.{◌≡◌, ℕ, pos, List, ◌∷◌, ◌++◌, map, Ok, true};
+ghost use Rattle.schema.specs.Fits.{Each, Fits, Lawful};
+ghost use Rattle.schema.specs.Merge.{merge};
+ghost use Rattle.schema.specs.Shape.{IsMessage, Shape, Index, Table, Value, empty};
+ghost use Rattle.schema.specs.Messages.{profile, resource_profiles};
+ghost use Rattle.schema.specs.Spell.{items_text, long_field, spell};
+ghost use Rattle.meaning.specs.Tree.{Tree, Integer, tree, value, IsOf};
+ghost use Rattle.meaning.specs.Tables.{Tables, IsSound, entry, has, Distinct};
+ghost use Rattle.meaning.specs.Meaning.{resolve, uses, blank, zero_value, entry_at, HasZeros, filled, IsMeaning};
+ghost use Rattle.meaning.specs.Message.{dictionary, dictionary_value, message, meaning_of, tables_for, canonical_value, meaning_text, entry_text, record_text, dictionary_text};
+ghost use Rattle.meaning.specs.Canonical.{zeros, tables_of, visited_tables, renumber, entries, records, record_list, IsWithin, Covers};
+ghost use Rattle.meaning.specs.Steps.{Drafted};
+
+/// A value is the value of its tree.
+pub fn trees_keep_values()
+    ensures { (s : Shape) → (v : Value s) → value s (tree s v) ≡ v }
+{}
+
+/// The canonical tables of a meaning, with its records renumbered, mean the same.
+pub fn canonical_resolves()
+    ensures { (s : Shape) → IsSound s → (m : Tree) → let v = tables_of s m in
+        resolve (entries v) s (renumber v s m) ≡ m }
+{}
+
+/// Meanings whose canonical entries and renumbered records are equal are equal.
+pub fn canonical_is_unique()
+    ensures { (s : Shape) → IsSound s → (m : Tree) → (n : Tree)
+        → ((T : Table) → entries (tables_of s m) T ≡ entries (tables_of s n) T)
+        → renumber (tables_of s m) s m ≡ renumber (tables_of s n) s n → m ≡ n }
+{}
+
+/// Each index of the renumbered records and of each renumbered entry is in its table.
+pub fn indexes_in_tables()
+    ensures records { (s : Shape) → (m : Tree) → let v = tables_of s m in IsWithin (entries v) s (renumber v s m) }
+    ensures entries { (s : Shape) → IsSound s → (m : Tree) → (T : Table) → let v = tables_of s m in
+        Each (IsWithin (entries v) (entry T)) (entries v T) }
+{}
+
+/// A table of a meaning has the zero value and each value that the walk meets, once and no other, and its entries differ.
+pub fn tables_hold_each_value_once()
+    ensures all { (s : Shape) → (m : Tree) → Covers (tables_of s m) s m }
+    ensures only { (s : Shape) → (m : Tree) → (T : Table) → Each (λ x. has (zeros T ++ uses T s m) x ≡ true) (tables_of s m T) }
+    ensures once { (s : Shape) → (m : Tree) → (T : Table) → Distinct (tables_of s m T) }
+    ensures entries { (s : Shape) → IsSound s → (m : Tree) → (T : Table) → Distinct (entries (tables_of s m) T) }
+{}
+
+/// Visiting each entry behind those that it names gives the same tables.
+pub fn orders_agree()
+    ensures { (s : Shape) → IsSound s → (m : Tree) → (T : Table) → visited_tables s m T ≡ tables_of s m T }
+{}
+
+/// Each table of a meaning begins with the zero value, whose entry is the empty one and whose index is 0.
+pub fn zero_comes_first()
+    ensures value { (s : Shape) → (m : Tree) → (T : Table) → (rest : List Tree) × (tables_of s m T ≡ zero_value (entry T) ∷ rest) }
+    ensures entry { (s : Shape) → (m : Tree) → (T : Table) → (rest : List Tree) × (entries (tables_of s m) T ≡ blank (entry T) ∷ rest) }
+    ensures index { (s : Shape) → (m : Tree) → (k : Shape) → IsSound k → renumber (tables_of s m) k (zero_value k) ≡ blank k }
+{}
+
+/// Where entries 0 are the zero entries, the empty value means the zero value, and so does an index to a zero entry,
+/// wherever that stands.
+pub fn zero_entries_mean_zero()
+    ensures empty { (d : Tables) → HasZeros d → (s : Shape) → IsSound s → resolve d s (blank s) ≡ zero_value s }
+    ensures index { (d : Tables) → HasZeros d → (T : Table) → (i : ℕ) → entry_at (d T) (entry T) (Integer (pos i)) ≡ blank (entry T)
+        → resolve d (Index T (entry T)) (Integer (pos i)) ≡ resolve d (Index T (entry T)) (Integer (pos 0)) }
+{}
+
+/// An empty table and a table of its zero entry alone mean the same.
+pub fn empty_tables_hold_zero()
+    ensures { (d : Tables) → (s : Shape) → IsSound s → (t : Tree) → resolve (filled d) s t ≡ resolve d s t }
+{}
+
+/// The entries and records of a draft are the canonical ones of its meanings.
+pub fn drafts_are_canonical()
+    ensures entries { (k : Shape) → (d : Tables) → (ms : List Tree) → (xs : List Tree) → Drafted k d ms xs → (T : Table)
+        → d T ≡ entries (tables_of (records k) (record_list ms)) T }
+    ensures records { (k : Shape) → (d : Tables) → (ms : List Tree) → (xs : List Tree) → Drafted k d ms xs
+        → record_list xs ≡ renumber (tables_of (records k) (record_list ms)) (records k) (record_list ms) }
+{}
+
+/// Entries of lists that cover two meanings tell these apart.
+pub fn entries_tell_values_apart()
+    ensures { (v : Tables) → (s : Shape) → IsSound s → (m : Tree) → (n : Tree) → Covers v s m → Covers v s n
+        → renumber v s m ≡ renumber v s n → m ≡ n }
+{}
+
+/// The canonical message of a meaning means it, and whatever a message means is such a meaning.
+pub fn canonical_message_means_the_same()
+    ensures same { (k : Shape) → IsSound k → (ms : List Tree) → Each (IsMeaning k) ms → meaning_of k (canonical_value k ms) ≡ ms }
+    ensures all { (k : Shape) → IsSound k → (x : Value (message k)) → Each (IsMeaning k) (meaning_of k x) }
+{}
+
+/// The canonical bytes of a meaning that can be written are read as its canonical message, wherever they begin.
+pub fn canonical_bytes_are_read()
+    ensures { (k : Shape) → Lawful k → (ms : List Tree) → Fits (message k) (canonical_value k ms) → (base : ℕ)
+        → merge (message k) (empty (message k)) base (meaning_text k ms) ≡ Ok (canonical_value k ms) }
+{}
+
+/// A message that is rebuilt from its meaning is read as one that means the same, and that would be rebuilt as it is.
+pub fn rebuilding_keeps_the_meaning()
+    ensures read { (k : Shape) → IsSound k → Lawful k → (x : Value (message k)) → Fits (message k) (canonical_value k (meaning_of k x)) → (base : ℕ)
+        → (y : Value (message k)) × (merge (message k) (empty (message k)) base (meaning_text k (meaning_of k x)) ≡ Ok y) × (meaning_of k y ≡ meaning_of k x) }
+    ensures again { (k : Shape) → IsSound k → (ms : List Tree) → Each (IsMeaning k) ms
+        → meaning_text k (meaning_of k (canonical_value k ms)) ≡ meaning_text k ms }
+{}
+
+/// Meanings that can be written have the same canonical bytes only where they are the same.
+pub fn canonical_bytes_are_unique()
+    ensures { (k : Shape) → IsSound k → Lawful k → (ms : List Tree) → (ns : List Tree) → Each (IsMeaning k) ms → Each (IsMeaning k) ns
+        → Fits (message k) (canonical_value k ms) → Fits (message k) (canonical_value k ns)
+        → meaning_text k ms ≡ meaning_text k ns → ms ≡ ns }
+{}
+
+/// The canonical bytes are the records, each behind its tag and length, and then the dictionary, which is always written
+/// with all its tables.
+pub fn canonical_bytes_have_their_parts()
+    ensures whole { (k : Shape) → IsMessage k → (ms : List Tree) → let v = tables_for k ms in
+        meaning_text k ms ≡ items_text 1 (map (λ m. record_text k (renumber v k m)) ms) ++ long_field 2 (dictionary_text (entries v)) }
+    ensures dictionary { (d : Tables) → spell dictionary (dictionary_value d) ≡ dictionary_text d }
+{}
+
+/// Entries that can be written have the same bytes only where they are the same.
+pub fn entry_bytes_tell_entries_apart()
+    ensures { (T : Table) → (e : Tree) → (f : Tree) → IsOf (entry T) e → IsOf (entry T) f
+        → Fits (entry T) (value (entry T) e) → Fits (entry T) (value (entry T) f) → entry_text T e ≡ entry_text T f → e ≡ f }
+{}
+
+/// In the schema, each index has the shape of its table's entries.
+pub fn schema_is_sound()
+    ensures entries { (T : Table) → IsSound (entry T) }
+    ensures profile { IsSound profile }
+    ensures records { IsSound resource_profiles }
+{}
