@@ -1,12 +1,12 @@
 -- Canonical tables have each value that their values name, and the indexes in them are within them.
-use Rattle.std.proofs.Common.{◌≡◌, List, [], ◌∷◌, map, true, cond, sym, ap, ◌∙◌, subst}
+use Rattle.std.proofs.Common.{◌≡◌, ℕ, ◌<◌, arith, List, [], ◌∷◌, map, length, true, cond, sym, ap, ◌∙◌, subst}
 use Rattle.std.proofs.lemmas.List.{length-map}
 use Rattle.schema.specs.Fits.{Each}
 use Rattle.schema.specs.Shape.{Shape, Index, One, Many, Table}
 use Rattle.schema_laws.proofs.Lists.{each_append, each_left, each_right}
 use Rattle.meaning.specs.Tree.{Tree, Natural, Integer, Boolean, Octets, Nil, Cons}
-use Rattle.meaning.specs.Tables.{Tables, IsSound, entry, same_table, has, Distinct}
-use Rattle.meaning.specs.Meaning.{at_parts, at_each, walk_parts, walk_each, zero_value, resolve, uses}
+use Rattle.meaning.specs.Tables.{Tables, IsSound, entry, same_table, has, place, Distinct}
+use Rattle.meaning.specs.Meaning.{at_parts, at_each, walk_parts, walk_each, zero_value, resolve, uses, or_blank}
 use Rattle.meaning.specs.Canonical.{HoldsForParts, HoldsForEach, IsWithin, Covers, zeros, tables_of, renumber, entries}
 use Rattle.meaning.proofs.Trees.{same-itself}
 use Rattle.meaning.proofs.Places.{each_all, place-lt, has-with_new, each_with_new, distinct-map}
@@ -111,6 +111,11 @@ parts_make g g' w w' P Q Q' q q' (Boolean b) h = tt
 parts_make g g' w w' P Q Q' q q' (Octets a) h = tt
 parts_make g g' w w' P Q Q' q q' Nil h = tt
 
+-- a place in a list is one where the list stands for the zero entry, too
+filled_below : (n : ℕ) (es : List Tree) (k : Shape) → n < length es → n < length (or_blank es k)
+filled_below n [] k h = absurd (omega arith)
+filled_below n (e ∷ es) k h = h
+
 -- the new indexes of a meaning that the lists cover are within them
 within : (v : Tables) (s : Shape) → Makes (renumber v s) (λ U. uses U s) (λ U x. has (v U) x ≡ true) (IsWithin (entries v) s)
 within v (One n k rest) t h =
@@ -121,7 +126,7 @@ within v (Many n k rest) t h =
     (each_makes (renumber v k) (λ U. uses U k) (λ U x. has (v U) x ≡ true) (IsWithin (entries v) k) (within v k)) (within v rest) t h
 within v (Index T k) t h =
     let here : has (v T) t ≡ true = (rw same_table-itself at (each_left (λ x. has (v T) x ≡ true) (cond (same_table T T) (t ∷ []) []) _ (h T))).0 in
-    rw length-map (place-lt (v T) t here)
+    filled_below (place (v T) t) (entries v T) k (rw length-map (place-lt (v T) t here))
 within v s t h = tt
 
 -- what holds of the images holds of the mapped list

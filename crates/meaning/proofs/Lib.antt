@@ -12,4 +12,5 @@ pub mod Drafts
 pub mod Forms
 pub mod Message
 pub mod Texts
+pub mod Unused
 pub mod Rows

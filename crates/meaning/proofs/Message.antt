@@ -1,5 +1,5 @@
 -- The canonical message of a meaning means it, and its bytes are read back.
-use Rattle.std.proofs.Common.{◌≡◌, ℕ, List, [], ◌∷◌, map, true, refl, sym, ap, ◌∙◌, arith, Ok, ⊎_elim}
+use Rattle.std.proofs.Common.{◌≡◌, ℕ, List, [], ◌∷◌, map, true, refl, sym, ap, ◌∙◌, subst, arith, Ok, ⊎_elim}
 use mathlib.Core.Path.{fun_ext}
 use Rattle.schema.specs.Fits.{Each, HasRow, Lawful, Fits}
 use Rattle.schema.specs.Merge.{merge}
@@ -10,10 +10,12 @@ use Rattle.schema_laws.proofs.Lists.{each_left, each_right}
 use Rattle.schema_laws.proofs.ReadFits.{spelled_apart}
 use Rattle.meaning.specs.Tree.{Tree, listed, tree, value, IsOf}
 use Rattle.meaning.specs.Tables.{Tables, IsSound, entry, has}
-use Rattle.meaning.specs.Meaning.{walk_each, resolve, uses, AreElements, IsMeaning}
-use Rattle.meaning.specs.Canonical.{renumber, entries, records, record_list}
+use Rattle.meaning.specs.Meaning.{at_each, walk_each, blank, resolve, uses, AreElements, IsMeaning}
+use Rattle.meaning.specs.Canonical.{HoldsForEach, IsWithin, renumber, entries, records, record_list}
 use Rattle.meaning.specs.Message.{dictionary, message, tables_in, meaning_of, dictionary_value, tables_for, canonical_value, meaning_text}
 use Rattle.meaning.proofs.Restores.{covering, tables-cover}
+use Rattle.meaning.proofs.Closed.{record_within, entries_within}
+use Rattle.meaning.proofs.Zero.{entries_first}
 use Rattle.meaning.proofs.Forms.{map-is, trees_are, resolved_means, renumbered_is, entries_are}
 
 -- ---- meanings
@@ -64,12 +66,55 @@ means-back k i v (m ∷ ms) h c =
     means-back k i v ms h.1 (λ T. each_right (λ x. has (v T) x ≡ true) (uses T k m) _ (c T)) in
     cc
 
+-- the canonical dictionary has the canonical entries
+pub canonical_tables : (k : Shape) → IsSound k → (ms : List Tree) → Each (IsMeaning k) ms
+    → (T : Table) → tables_in (canonical_value k ms).1.0 T ≡ entries (tables_for k ms) T
+canonical_tables k i ms h =
+    tables-back (entries (tables_for k ms)) (entries_are (records k) (i, tt) (record_list ms) (listed_mean k ms h, refl))
+
+-- and the canonical records are the renumbered meanings
+renumbered_are : (k : Shape) (v : Tables) (ms : List Tree) → Each (IsMeaning k) ms
+    → map (tree k) (map (λ m. value k (renumber v k m)) ms) ≡ map (renumber v k) ms
+renumbered_are k v [] h = refl
+renumbered_are k v (m ∷ ms) h =
+    let e : tree k (value k (renumber v k m)) ≡ renumber v k m = renumbered_is v k m h.0 in
+    let r : map (tree k) (map (λ m. value k (renumber v k m)) ms) ≡ map (renumber v k) ms = renumbered_are k v ms h.1 in cc
+
+pub canonical_records : (k : Shape) (ms : List Tree) → Each (IsMeaning k) ms
+    → map (tree k) (canonical_value k ms).0 ≡ map (renumber (tables_for k ms) k) ms
+canonical_records k ms h = renumbered_are k (tables_for k ms) ms h
+
+-- the zero entries come first
+pub canonical_zeros : (k : Shape) → IsSound k → (ms : List Tree) → Each (IsMeaning k) ms
+    → (T : Table) → (rest : List Tree) × (tables_in (canonical_value k ms).1.0 T ≡ blank (entry T) ∷ rest)
+canonical_zeros k i ms h T =
+    let f = entries_first (records k) (record_list ms) T in (f.0, canonical_tables k i ms h T ∙ f.1)
+
+-- each index of an entry is in its table
+pub canonical_entries_within : (k : Shape) → IsSound k → (ms : List Tree) → Each (IsMeaning k) ms
+    → (T : Table) → let d = tables_in (canonical_value k ms).1.0 in Each (IsWithin d (entry T)) (d T)
+canonical_entries_within k i ms h T =
+    subst (λ d. Each (IsWithin d (entry T)) (d T)) (sym (fun_ext (canonical_tables k i ms h))) (entries_within (records k) (i, tt) (record_list ms) T)
+
+-- and so is each of a record
+listed_within : (P : Tree → Type 0) (f : Tree → Tree) (ms : List Tree) → HoldsForEach P (at_each f (listed ms)) → Each P (map f ms)
+listed_within P f [] h = tt
+listed_within P f (m ∷ ms) h = (h.0, listed_within P f ms h.1)
+
+pub canonical_records_within : (k : Shape) → IsSound k → (ms : List Tree) → Each (IsMeaning k) ms
+    → let x = canonical_value k ms in Each (IsWithin (tables_in x.1.0) k) (map (tree k) x.0)
+canonical_records_within k i ms h =
+    let v : Tables = tables_for k ms in
+    let w : Each (IsWithin (entries v) k) (map (renumber v k) ms) =
+    listed_within (IsWithin (entries v) k) (renumber v k) ms (record_within (records k) (record_list ms)).0 in
+    subst (λ d. Each (IsWithin d k) (map (tree k) (canonical_value k ms).0)) (sym (fun_ext (canonical_tables k i ms h)))
+    (subst (λ ts. Each (IsWithin (entries v) k) ts) (sym (canonical_records k ms h)) w)
+
 -- so the canonical message of meanings means them
 pub means_the_same : (k : Shape) → IsSound k → (ms : List Tree) → Each (IsMeaning k) ms → meaning_of k (canonical_value k ms) ≡ ms
 means_the_same k i ms h =
     let v : Tables = tables_for k ms in
-    let e : tables_in (dictionary_value (entries v)) ≡ entries v =
-    fun_ext (tables-back (entries v) (entries_are (records k) (i, tt) (record_list ms) (listed_mean k ms h, refl))) in
+    let e : tables_in (dictionary_value (entries v)) ≡ entries v = fun_ext (canonical_tables k i ms h) in
     ap (λ d. map (λ r. resolve d k (tree k r)) (map (λ m. value k (renumber v k m)) ms)) e
     ∙ means-back k i v ms h (λ T. each_left (λ x. has (v T) x ≡ true) (walk_each (uses T k) (listed ms)) _ (tables-cover (records k) (record_list ms) T))
 

@@ -74,10 +74,16 @@ pub zero-index : (d : Tables) → HasZeros d → (T : Table) (i : ℕ) → entry
     → resolve d (Index T (entry T)) (Integer (pos i)) ≡ resolve d (Index T (entry T)) (Integer (pos 0))
 zero-index d h T i e = ap (resolve d (entry T)) (e ∙ sym (h T))
 
+-- and an entry that means the zero value is index 0 in canonical tables
+pub zero-again : (s : Shape) (m : Tree) (d : Tables) (T : Table) (i : ℕ)
+    → resolve d (entry T) (entry_at (d T) (entry T) (Integer (pos i))) ≡ zero_value (entry T)
+    → renumber (tables_of s m) (Index T (entry T)) (resolve d (Index T (entry T)) (Integer (pos i))) ≡ Integer (pos 0)
+zero-again s m d T i e = ap (renumber (tables_of s m) (Index T (entry T))) e ∙ ap (λ j. Integer (pos j)) (zero-place (tables_of s m) (tables_first s m) T)
+
 -- ---- empty tables
 
 -- the zero entry of an empty table is what stands for no entry
-filled-at : (es : List Tree) (k : Shape) (t : Tree) → entry_at (or_blank es k) k t ≡ entry_at es k t
+pub filled-at : (es : List Tree) (k : Shape) (t : Tree) → entry_at (or_blank es k) k t ≡ entry_at es k t
 filled-at [] k (Integer (pos zero)) = refl
 filled-at [] k (Integer (pos (suc i))) = refl
 filled-at [] k (Integer (negsuc i)) = refl

@@ -4,7 +4,7 @@ use Rattle.schema.specs.Fits.{Each}
 use Rattle.schema.specs.Shape.{Shape, Index, End, One, Many, Table}
 use Rattle.meaning.specs.Tree.{Tree, Integer, Nil, Cons, integer_of, listed}
 use Rattle.meaning.specs.Tables.{Tables, entry, has, place, with_new}
-use Rattle.meaning.specs.Meaning.{at_parts, at_each, zero_value, resolve, uses, visits}
+use Rattle.meaning.specs.Meaning.{at_parts, at_each, zero_value, resolve, uses, visits, or_blank}
 
 -- the tables that each message begins with
 abbrev pub zeros : Tables
@@ -55,9 +55,9 @@ abbrev pub IsIndex : ℕ → ℤ → Type 0
 IsIndex len (pos i) = i < len
 IsIndex len (negsuc i) = ⊥
 
--- each index is in its table
+-- each index is in its table; an empty table counts as its zero entry alone
 abbrev pub IsWithin : Tables → Shape → Tree → Type 0
-IsWithin d (Index T k) t = IsIndex (length (d T)) (integer_of t)
+IsWithin d (Index T k) t = IsIndex (length (or_blank (d T) k)) (integer_of t)
 IsWithin d (One n k rest) t = HoldsForParts (IsWithin d k) (IsWithin d rest) t
 IsWithin d (Many n k rest) t = HoldsForParts (HoldsForEach (IsWithin d k)) (IsWithin d rest) t
 IsWithin d s t = Unit {0}

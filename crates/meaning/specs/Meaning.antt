@@ -26,7 +26,7 @@ walk_each f t = []
 abbrev pub blank : Shape → Tree
 blank s = tree s (empty s)
 
--- what the empty value means: behind its indexes are empty values again
+-- what the empty value means where entries 0 are zero: behind its indexes are empty values again
 abbrev pub zero_value : Shape → Tree
 zero_value (Index T k) = zero_value k
 zero_value (One n k rest) = Cons (zero_value k) (zero_value rest)
@@ -45,8 +45,8 @@ resolve d (One n k rest) t = at_parts (resolve d k) (resolve d rest) t
 resolve d (Many n k rest) t = at_parts (at_each (resolve d k)) (resolve d rest) t
 resolve d s t = t
 
--- The values of a table's kind that the walk of a meaning meets, with repeats: fields ascend, elements are in order, and
--- an entry comes before those that it names.
+-- The values of a table's kind that the walk of a meaning meets, with repeats: rows and elements are in order, and an
+-- entry comes before those that it names.
 abbrev pub uses : Table → Shape → Tree → List Tree
 uses T (Index U k) t = cond (same_table T U) (t ∷ []) [] ++ uses T k t
 uses T (One n k rest) t = walk_parts (uses T k) (uses T rest) t

@@ -69,7 +69,7 @@ meaning_text k ms = spell (message k) (canonical_value k ms)
 
 -- ---- its parts
 
--- The bytes of an entry: a string's own, and of other entries the spelling. They serve as its key, too.
+-- The bytes of an entry: a string's own, and of other entries the spelling.
 abbrev pub entry_text : Table → Tree → List ℕ
 entry_text Strings e = octets_of e
 entry_text T e = spell (entry T) (value (entry T) e)

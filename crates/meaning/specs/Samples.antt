@@ -2,7 +2,8 @@
 use Rattle.std.specs.Prelude.{◌≡◌, ℕ, pos, negsuc, List, [], ◌∷◌, refl}
 use Rattle.schema.specs.Messages.{mapping, location, function, link, attribute, stack, sample, value_type}
 use Rattle.schema.specs.Shape.{Value, empty}
-use Rattle.meaning.specs.Message.{dictionary, message, meaning_of, canonical_value}
+use Rattle.meaning.specs.Message.{dictionary, message, meaning_of, canonical_value, meaning_text}
+use Rattle.schema.specs.Spell.{varint_upto, number_field, long_field, bytes_field}
 
 -- a dictionary with these locations, strings and stacks, and with the zero entry alone in each other table
 abbrev dictionary_with : List (Value location) → List (List ℕ) → List (Value stack) → Value dictionary
@@ -35,6 +36,14 @@ one_stack : canonical_value sample (meaning_of sample two_stacks) ≡ (
   (dictionary_with (location_at 0 ∷ location_at 16 ∷ []) ([] ∷ []) (empty stack ∷ stack_of 1 ∷ []), tt),
 )
 one_stack = refl
+
+-- and these are its bytes
+one_stack_text : meaning_text sample (meaning_of sample two_stacks) ≡
+  10 ∷ 5 ∷ 8 ∷ 1 ∷ 18 ∷ 1 ∷ 7 ∷ 10 ∷ 5 ∷ 8 ∷ 1 ∷ 18 ∷ 1 ∷ 8 ∷ 18 ∷ 23 ∷
+  10 ∷ 0 ∷ 18 ∷ 0 ∷ 18 ∷ 2 ∷ 16 ∷ 16 ∷ 26 ∷ 0 ∷ 34 ∷ 0 ∷
+  42 ∷ 0 ∷ 50 ∷ 0 ∷ 58 ∷ 0 ∷ 58 ∷ 3 ∷ 10 ∷ 1 ∷ 1 ∷ []
+unfolding varint_upto number_field long_field bytes_field
+one_stack_text = refl
 
 -- ---- the order of entries
 

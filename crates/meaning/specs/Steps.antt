@@ -40,7 +40,7 @@ Becomes d s v w x y = Written s v w (resolve d s (tree s x)) (tree s y)
 abbrev pub BecomeEach : (d : Tables) (s : Shape) (v w : Tables) → List (Value s) → List (Value s) → Type 0
 BecomeEach d s v w xs ys = WrittenEach s v w (map (λ x. resolve d s (tree s x)) xs) (map (tree s) ys)
 
--- a shape without indexes, whose values are written as they are
+-- a shape without indexes that are read, whose values are written as they are
 abbrev pub is_plain : Shape → Bool
 is_plain (Index T k) = false
 is_plain (One n k rest) = is_plain k && is_plain rest

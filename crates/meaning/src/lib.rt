@@ -3,7 +3,7 @@
 //! no body, over all shapes at once.
 #![tactic(auto)]
 
-ghost use Rattle.std.specs.Prelude.{◌≡◌, ℕ, pos, List, ◌∷◌, ◌++◌, map, Ok, true};
+ghost use Rattle.std.specs.Prelude.{◌≡◌, ℕ, pos, List, [], ◌∷◌, ◌++◌, length, take, map, Ok, true};
 ghost use Rattle.schema.specs.Fits.{Each, Fits, Lawful};
 ghost use Rattle.schema.specs.Merge.{merge};
 ghost use Rattle.schema.specs.Shape.{IsMessage, Shape, Index, Table, Value, empty};
@@ -12,9 +12,9 @@ ghost use Rattle.schema.specs.Spell.{items_text, long_field, spell};
 ghost use Rattle.meaning.specs.Tree.{Tree, Integer, tree, value, IsOf};
 ghost use Rattle.meaning.specs.Tables.{Tables, IsSound, entry, has, Distinct};
 ghost use Rattle.meaning.specs.Meaning.{resolve, uses, blank, zero_value, entry_at, HasZeros, filled, IsMeaning};
-ghost use Rattle.meaning.specs.Message.{dictionary, dictionary_value, message, meaning_of, tables_for, canonical_value, meaning_text, entry_text, record_text, dictionary_text};
-ghost use Rattle.meaning.specs.Canonical.{zeros, tables_of, visited_tables, renumber, entries, records, record_list, IsWithin, Covers};
-ghost use Rattle.meaning.specs.Steps.{Drafted};
+ghost use Rattle.meaning.specs.Message.{dictionary, dictionary_value, tables_in, message, meaning_of, tables_for, canonical_value, meaning_text, entry_text, record_text, dictionary_text};
+ghost use Rattle.meaning.specs.Canonical.{zeros, tables_of, visited_tables, renumber, entries, values, records, record_list, IsWithin, Covers};
+ghost use Rattle.meaning.specs.Steps.{Stands, WrittenEach, Drafted};
 
 /// A value is the value of its tree.
 pub fn trees_keep_values()
@@ -54,24 +54,44 @@ pub fn orders_agree()
     ensures { (s : Shape) → IsSound s → (m : Tree) → (T : Table) → visited_tables s m T ≡ tables_of s m T }
 {}
 
-/// Each table of a meaning begins with the zero value, whose entry is the empty one and whose index is 0.
+/// Each table of a meaning begins with the zero value (`value`), its entry is the empty one (`entry`), and its index is 0
+/// (`index`).
 pub fn zero_comes_first()
     ensures value { (s : Shape) → (m : Tree) → (T : Table) → (rest : List Tree) × (tables_of s m T ≡ zero_value (entry T) ∷ rest) }
     ensures entry { (s : Shape) → (m : Tree) → (T : Table) → (rest : List Tree) × (entries (tables_of s m) T ≡ blank (entry T) ∷ rest) }
     ensures index { (s : Shape) → (m : Tree) → (k : Shape) → IsSound k → renumber (tables_of s m) k (zero_value k) ≡ blank k }
 {}
 
-/// Where entries 0 are the zero entries, the empty value means the zero value, and so does an index to a zero entry,
-/// wherever that stands.
+/// Where entries 0 are the zero entries, the empty value means the zero value, and so does an index to an empty entry,
+/// wherever that stands. An index to an entry that means the zero value becomes 0.
 pub fn zero_entries_mean_zero()
     ensures empty { (d : Tables) → HasZeros d → (s : Shape) → IsSound s → resolve d s (blank s) ≡ zero_value s }
     ensures index { (d : Tables) → HasZeros d → (T : Table) → (i : ℕ) → entry_at (d T) (entry T) (Integer (pos i)) ≡ blank (entry T)
         → resolve d (Index T (entry T)) (Integer (pos i)) ≡ resolve d (Index T (entry T)) (Integer (pos 0)) }
+    ensures renumbered { (s : Shape) → (m : Tree) → (d : Tables) → (T : Table) → (i : ℕ)
+        → resolve d (entry T) (entry_at (d T) (entry T) (Integer (pos i))) ≡ zero_value (entry T)
+        → renumber (tables_of s m) (Index T (entry T)) (resolve d (Index T (entry T)) (Integer (pos i))) ≡ Integer (pos 0) }
 {}
 
 /// An empty table and a table of its zero entry alone mean the same.
 pub fn empty_tables_hold_zero()
     ensures { (d : Tables) → (s : Shape) → IsSound s → (t : Tree) → resolve (filled d) s t ≡ resolve d s t }
+{}
+
+/// Entries that stand behind those of a dictionary, and that no index of it names, change no meaning.
+pub fn unused_entries_mean_nothing()
+    ensures { (d : Tables) → ((T : Table) → Each (IsWithin d (entry T)) (d T)) → (more : Tables) → (s : Shape) → IsSound s → (t : Tree) → IsWithin d s t
+        → resolve (λ T. filled d T ++ more T) s t ≡ resolve d s t }
+{}
+
+/// A draft begins with zero entries alone and gains what is written behind its records. Its tables are as before when they
+/// are cut to their old lengths.
+pub fn drafts_grow_and_are_cut_back()
+    ensures begin { (k : Shape) → (d : Tables) → ((T : Table) → d T ≡ blank (entry T) ∷ []) → Drafted k d [] [] }
+    ensures join { (k : Shape) → (d : Tables) → (e : Tables) → (ms : List Tree) → (ns : List Tree) → (xs : List Tree) → (ys : List Tree)
+        → Drafted k d ms xs → Stands e → WrittenEach k (values d) (values e) ns ys → Drafted k e (ms ++ ns) (xs ++ ys) }
+    ensures cut { (k : Shape) → (d : Tables) → (e : Tables) → (ns : List Tree) → (ys : List Tree)
+        → Stands d → Stands e → WrittenEach k (values d) (values e) ns ys → (T : Table) → take (length (d T)) (e T) ≡ d T }
 {}
 
 /// The entries and records of a draft are the canonical ones of its meanings.
@@ -82,7 +102,7 @@ pub fn drafts_are_canonical()
         → record_list xs ≡ renumber (tables_of (records k) (record_list ms)) (records k) (record_list ms) }
 {}
 
-/// Entries of lists that cover two meanings tell these apart.
+/// Two meanings that the lists cover and that are renumbered alike are the same.
 pub fn entries_tell_values_apart()
     ensures { (v : Tables) → (s : Shape) → IsSound s → (m : Tree) → (n : Tree) → Covers v s m → Covers v s n
         → renumber v s m ≡ renumber v s n → m ≡ n }
@@ -94,7 +114,23 @@ pub fn canonical_message_means_the_same()
     ensures all { (k : Shape) → IsSound k → (x : Value (message k)) → Each (IsMeaning k) (meaning_of k x) }
 {}
 
-/// The canonical bytes of a meaning that can be written are read as its canonical message, wherever they begin.
+/// The canonical message has the canonical entries and the renumbered records. So entry 0 of each table is the zero entry,
+/// and each index, of an entry or of a record, is in its table.
+pub fn canonical_message_is_in_order()
+    ensures tables { (k : Shape) → IsSound k → (ms : List Tree) → Each (IsMeaning k) ms
+        → (T : Table) → tables_in (canonical_value k ms).1.0 T ≡ entries (tables_for k ms) T }
+    ensures renumbered { (k : Shape) → (ms : List Tree) → Each (IsMeaning k) ms
+        → map (tree k) (canonical_value k ms).0 ≡ map (renumber (tables_for k ms) k) ms }
+    ensures zeros { (k : Shape) → IsSound k → (ms : List Tree) → Each (IsMeaning k) ms
+        → (T : Table) → (rest : List Tree) × (tables_in (canonical_value k ms).1.0 T ≡ blank (entry T) ∷ rest) }
+    ensures entries { (k : Shape) → IsSound k → (ms : List Tree) → Each (IsMeaning k) ms
+        → (T : Table) → let d = tables_in (canonical_value k ms).1.0 in Each (IsWithin d (entry T)) (d T) }
+    ensures records { (k : Shape) → IsSound k → (ms : List Tree) → Each (IsMeaning k) ms
+        → let x = canonical_value k ms in Each (IsWithin (tables_in x.1.0) k) (map (tree k) x.0) }
+{}
+
+/// The canonical bytes of a meaning are read as its canonical message, wherever they begin, if that message can be written.
+/// That it can is not shown here: its numbers and lengths may be out of range.
 pub fn canonical_bytes_are_read()
     ensures { (k : Shape) → Lawful k → (ms : List Tree) → Fits (message k) (canonical_value k ms) → (base : ℕ)
         → merge (message k) (empty (message k)) base (meaning_text k ms) ≡ Ok (canonical_value k ms) }
@@ -115,8 +151,8 @@ pub fn canonical_bytes_are_unique()
         → meaning_text k ms ≡ meaning_text k ns → ms ≡ ns }
 {}
 
-/// The canonical bytes are the records, each behind its tag and length, and then the dictionary, which is always written
-/// with all its tables.
+/// The canonical bytes are the records, each behind its tag and length, and then the dictionary, which is always written:
+/// each table has its zero entry (`canonical_message_is_in_order`).
 pub fn canonical_bytes_have_their_parts()
     ensures whole { (k : Shape) → IsMessage k → (ms : List Tree) → let v = tables_for k ms in
         meaning_text k ms ≡ items_text 1 (map (λ m. record_text k (renumber v k m)) ms) ++ long_field 2 (dictionary_text (entries v)) }

@@ -1,5 +1,5 @@
-use Rattle.meaning.proofs.Zero.{blank-resolves, zero-index}
+use Rattle.meaning.proofs.Zero.{blank-resolves, zero-index, zero-again}
 use Rattle.meaning.proofs.zero_entries_mean_zero.Goals as goal
 
 pub returns : goal.returns
-returns c = record { empty = blank-resolves; index = zero-index }
+returns c = record { empty = blank-resolves; index = zero-index; renumbered = zero-again }

@@ -1,0 +1,5 @@
+use Rattle.meaning.proofs.Unused.{unused}
+use Rattle.meaning.proofs.unused_entries_mean_nothing.Goals as goal
+
+pub returns : goal.returns
+returns c d h more s i t w = unused d more h s i t w
