@@ -1,22 +1,21 @@
 -- A whole message: its records, and the dictionary with all seven tables. What it means, and the canonical message and
 -- bytes of a meaning.
 use Rattle.std.specs.Prelude.{ℕ, List, ◌++◌, map}
-use Rattle.schema.specs.Shape.{Shape, End, One, Many, Value, Table, Mappings, Locations, Functions, Links, Strings, Attributes, Stacks}
+use Rattle.schema.specs.Shape.{Shape, Value, Table, Mappings, Locations, Functions, Links, Strings, Attributes, Stacks}
+use Rattle.schema.specs.Messages.{dictionary_shape, envelope_shape}
 use Rattle.schema.specs.Spell.{items_text, spell}
 use Rattle.meaning.specs.Tree.{Tree, octets_of, tree, value}
 use Rattle.meaning.specs.Tables.{Tables, entry, field_of}
 use Rattle.meaning.specs.Meaning.{resolve}
 use Rattle.meaning.specs.Canonical.{tables_of, renumber, entries, records, record_list}
 
--- the dictionary with its tables' entries
+-- the dictionary, all of whose tables are read
 abbrev pub dictionary : Shape
-dictionary =
-    Many 1 (entry Mappings) (Many 2 (entry Locations) (Many 3 (entry Functions) (Many 4 (entry Links)
-    (Many 5 (entry Strings) (Many 6 (entry Attributes) (Many 7 (entry Stacks) End))))))
+dictionary = dictionary_shape entry
 
--- a message of records of this shape: 1 records, 2 dictionary
+-- a message of records of this shape
 abbrev pub message : Shape → Shape
-message k = Many 1 k (One 2 dictionary End)
+message k = envelope_shape k dictionary
 
 -- ---- what a message means
 

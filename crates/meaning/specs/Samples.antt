@@ -39,9 +39,9 @@ one_stack = refl
 
 -- and these are its bytes
 one_stack_text : meaning_text sample (meaning_of sample two_stacks) ≡
-  10 ∷ 5 ∷ 8 ∷ 1 ∷ 18 ∷ 1 ∷ 7 ∷ 10 ∷ 5 ∷ 8 ∷ 1 ∷ 18 ∷ 1 ∷ 8 ∷ 18 ∷ 23 ∷
-  10 ∷ 0 ∷ 18 ∷ 0 ∷ 18 ∷ 2 ∷ 16 ∷ 16 ∷ 26 ∷ 0 ∷ 34 ∷ 0 ∷
-  42 ∷ 0 ∷ 50 ∷ 0 ∷ 58 ∷ 0 ∷ 58 ∷ 3 ∷ 10 ∷ 1 ∷ 1 ∷ []
+    10 ∷ 5 ∷ 8 ∷ 1 ∷ 18 ∷ 1 ∷ 7 ∷ 10 ∷ 5 ∷ 8 ∷ 1 ∷ 18 ∷ 1 ∷ 8 ∷ 18 ∷ 23 ∷
+    10 ∷ 0 ∷ 18 ∷ 0 ∷ 18 ∷ 2 ∷ 16 ∷ 16 ∷ 26 ∷ 0 ∷ 34 ∷ 0 ∷
+    42 ∷ 0 ∷ 50 ∷ 0 ∷ 58 ∷ 0 ∷ 58 ∷ 3 ∷ 10 ∷ 1 ∷ 1 ∷ []
 unfolding varint_upto number_field long_field bytes_field
 one_stack_text = refl
 

@@ -1,18 +1,8 @@
 -- The tables of a dictionary: what their entries are, and lists by table.
 use Rattle.std.specs.Prelude.{◌≡◌, ℕ, suc, List, [], ◌∷◌, ◌++◌, Bool, true, false, cond, ◌==◌}
-use Rattle.schema.specs.Shape.{Shape, Text, Index, Unbuilt, One, Many, Table, Mappings, Locations, Functions, Links, Strings, Attributes, Stacks}
-use Rattle.schema.specs.Messages.{mapping, location, function, link, attribute, stack}
+use Rattle.schema.specs.Shape.{Shape, Index, Unbuilt, One, Many, Table, Mappings, Locations, Functions, Links, Strings, Attributes, Stacks}
+pub use Rattle.schema.specs.Messages.{entry}
 use Rattle.meaning.specs.Tree.{Tree, same}
-
--- the shape of a table's entries
-abbrev pub entry : Table → Shape
-entry Mappings = mapping
-entry Locations = location
-entry Functions = function
-entry Links = link
-entry Strings = Text
-entry Attributes = attribute
-entry Stacks = stack
 
 -- the number of a table's field in the dictionary
 abbrev pub field_of : Table → ℕ

@@ -122,7 +122,7 @@ fn accepts(rt: HostRuntime) -> Result<(), Fail> {
             b"\x0a\x04\x12\x02\x12\x00",
             1,
         ),
-        // The plain fields of a profile in another order: the last payload and the last duration win, of the count the low 32
+        // The plain fields of a profile in another order: the last format and the last duration win, of the count the low 32
         // bits are read, and a time that is a varint is skipped.
         (
             b"\x0a\x30\x12\x2e\x12\x2c\x52\x01\x00\x4a\x00\x4a\x01x\x40\x87\x80\x80\x80\x10\x3a\x02\x01\x02\

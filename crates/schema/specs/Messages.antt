@@ -3,7 +3,7 @@
 -- under development; this table alone decides the fields and their numbers. A field's name stands in the comment, and a
 -- field that is not read yet is marked `Unbuilt`; `unbuilt` marks each field of a message, and `without` those named.
 use Rattle.std.specs.Prelude.{ℕ, ◌+◌, [], ◌∷◌}
-use Rattle.schema.specs.Shape.{Shape, Number, Fixed, Bytes, Text, Any, Index, Unbuilt, End, One, Many, U32, U64, I32, I64, Flag, Mappings, Locations, Functions, Links, Strings, Attributes, Stacks, unbuilt, without}
+use Rattle.schema.specs.Shape.{Shape, Number, Fixed, Bytes, Text, Any, Index, Unbuilt, End, One, Many, U32, U64, I32, I64, Flag, Table, Mappings, Locations, Functions, Links, Strings, Attributes, Stacks, unbuilt, without}
 
 -- an index into the string table
 abbrev pub string : Shape
@@ -87,14 +87,35 @@ resource = Many 1 (key_value 1) (One 2 (Number U32) (Many 3 Bytes End))
 abbrev pub resource_profiles : Shape
 resource_profiles = One 1 (Unbuilt resource) (Many 2 scope_profiles (One 3 (Unbuilt Text) End))
 
--- Dictionary: 1 mapping_table, 2 location_table, 3 function_table, 4 link_table, 5 string_table, 6 attribute_table,
--- 7 stack_table
-abbrev pub dictionary : Shape
-dictionary = Many 1 (unbuilt mapping) (Many 2 (unbuilt location) (Many 3 (unbuilt function) (Many 4 (unbuilt link) (Many 5 Text (Many 6 (unbuilt attribute) (Many 7 (unbuilt stack) End))))))
+-- the entries of a table
+abbrev pub entry : Table → Shape
+entry Mappings = mapping
+entry Locations = location
+entry Functions = function
+entry Links = link
+entry Strings = Text
+entry Attributes = attribute
+entry Stacks = stack
 
--- Envelope (ProfilesData, and the export request): 1 resource_profiles, 2 dictionary
+-- as far as they are read: the texts alone
+abbrev pub read_entry : Table → Shape
+read_entry Strings = Text
+read_entry T = unbuilt (entry T)
+
+-- Dictionary, of such entries: 1 mapping_table, 2 location_table, 3 function_table, 4 link_table, 5 string_table,
+-- 6 attribute_table, 7 stack_table
+abbrev pub dictionary_shape : (Table → Shape) → Shape
+dictionary_shape e = Many 1 (e Mappings) (Many 2 (e Locations) (Many 3 (e Functions) (Many 4 (e Links) (Many 5 (e Strings) (Many 6 (e Attributes) (Many 7 (e Stacks) End))))))
+
+abbrev pub dictionary : Shape
+dictionary = dictionary_shape read_entry
+
+-- Envelope (ProfilesData, and the export request), of such records and dictionary: 1 resource_profiles, 2 dictionary
+abbrev pub envelope_shape : Shape → Shape → Shape
+envelope_shape records entries = Many 1 records (One 2 entries End)
+
 abbrev pub envelope : Shape
-envelope = Many 1 resource_profiles (One 2 dictionary End)
+envelope = envelope_shape resource_profiles dictionary
 
 -- Partial success of an export: 1 rejected_profiles, 2 error_message
 abbrev pub partial_success : Shape

@@ -4,7 +4,7 @@
 
 ghost use Rattle.std.specs.Prelude.{◌≡◌, true};
 ghost use Rattle.schema.specs.Fits.{ascends, is_lawful};
-ghost use Rattle.schema.specs.Messages.{envelope, dictionary, resource_profiles, resource, scope_profiles, scope, profile, sample, value_type, link, stack, mapping, location, line, function, attribute, key_value, any_value, array_value, key_value_list, export_response, rpc_status};
+ghost use Rattle.schema.specs.Messages.{envelope, dictionary, resource_profiles, resource, scope_profiles, scope, profile, plain_profile, sample, value_type, link, stack, mapping, location, line, function, attribute, key_value, any_value, array_value, key_value_list, export_response, rpc_status};
 
 /// In each message of the schema no two fields have one number, and each number is one that a tag can hold. A field that is
 /// not read yet, an index and an AnyValue are not looked into, so each message is named.
@@ -42,6 +42,7 @@ pub fn rows_ascend()
     ensures scope_profiles { ascends 0 scope_profiles ≡ true }
     ensures scope { ascends 0 scope ≡ true }
     ensures profile { ascends 0 profile ≡ true }
+    ensures plain_profile { ascends 0 plain_profile ≡ true }
     ensures sample { ascends 0 sample ≡ true }
     ensures value_type { ascends 0 value_type ≡ true }
     ensures link { ascends 0 link ≡ true }
