@@ -15,7 +15,7 @@ use Rattle.meaning.proofs.Closed.{each_map}
 -- ---- cases
 
 -- what holds of each tree with such rows
-by_parts : (X : Tree → Type 0) (P Q : Tree → Type 0) → ((t ts : Tree) → P t → Q ts → X (Cons t ts)) → (t : Tree) → AreParts P Q t → X t
+pub by_parts : (X : Tree → Type 0) (P Q : Tree → Type 0) → ((t ts : Tree) → P t → Q ts → X (Cons t ts)) → (t : Tree) → AreParts P Q t → X t
 by_parts X P Q f (Cons t ts) h = f t ts h.0 h.1
 by_parts X P Q f (Natural n) h = absurd h
 by_parts X P Q f (Integer z) h = absurd h
@@ -24,7 +24,7 @@ by_parts X P Q f (Octets a) h = absurd h
 by_parts X P Q f Nil h = absurd h
 
 -- and of each list of such elements
-by_elements : (X : Tree → Type 0) (P : Tree → Type 0) → X Nil → ((t ts : Tree) → P t → X ts → X (Cons t ts)) → (t : Tree) → AreElements P t → X t
+pub by_elements : (X : Tree → Type 0) (P : Tree → Type 0) → X Nil → ((t ts : Tree) → P t → X ts → X (Cons t ts)) → (t : Tree) → AreElements P t → X t
 by_elements X P n f (Cons t ts) h = f t ts h.0 (by_elements X P n f ts h.1)
 by_elements X P n f (Natural m) h = subst X (sym h) n
 by_elements X P n f (Integer z) h = subst X (sym h) n
@@ -50,20 +50,52 @@ map-is s (t ∷ ts) h =
     let e : tree s (value s t) ≡ t = h.0 in
     let r : map (tree s) (map (value s) ts) ≡ ts = map-is s ts h.1 in cc
 
--- the entry of each index is the tree of a value
-entry_is : (k : Shape) (es : List Tree) → Each (IsOf k) es → (t : Tree) → IsOf k (entry_at es k t)
-entry_is k es h (Integer (pos i)) = go es i h
+-- what holds of each entry and of the empty one holds of the entry of each index
+pub entry_has : (P : Tree → Type 0) (k : Shape) → P (blank k) → (es : List Tree) → Each P es → (t : Tree) → P (entry_at es k t)
+entry_has P k b es h (Integer (pos i)) = go es i h
   where
-    go : (es : List Tree) (i : ℕ) → Each (IsOf k) es → IsOf k (get_or es i (blank k))
-    go [] i h = tree_is k (empty k)
+    go : (es : List Tree) (i : ℕ) → Each P es → P (get_or es i (blank k))
+    go [] i h = b
     go (e ∷ es) zero h = h.0
     go (e ∷ es) (suc i) h = go es i h.1
-entry_is k es h (Integer (negsuc i)) = tree_is k (empty k)
-entry_is k es h (Natural n) = tree_is k (empty k)
-entry_is k es h (Boolean b) = tree_is k (empty k)
-entry_is k es h (Octets a) = tree_is k (empty k)
-entry_is k es h Nil = tree_is k (empty k)
-entry_is k es h (Cons t ts) = tree_is k (empty k)
+entry_has P k b es h (Integer (negsuc i)) = b
+entry_has P k b es h (Natural n) = b
+entry_has P k b es h (Boolean c) = b
+entry_has P k b es h (Octets a) = b
+entry_has P k b es h Nil = b
+entry_has P k b es h (Cons t ts) = b
+
+-- ---- what a tree hands on
+
+-- what holds of a tree holds of its parts, and of an entry as of the index that names it
+pub record IsHandedOn (P : Shape → Tree → Type 0) : Type 0 where
+  pub one : (n : ℕ) (k rest : Shape) (t : Tree) → P (One n k rest) t → AreParts (P k) (P rest) t
+  pub many : (n : ℕ) (k rest : Shape) (t : Tree) → P (Many n k rest) t → AreParts (AreElements (P k)) (P rest) t
+  pub index : (T : Table) (k : Shape) (t : Tree) → P (Index T k) t → P k t
+
+-- so it holds of the values that a walk meets
+uses_have : (P : Shape → Tree → Type 0) → IsHandedOn P → (T : Table) (s : Shape) → IsSound s → (t : Tree) → P s t → Each (P (entry T)) (uses T s t)
+uses_have P c T (One n k rest) i t h =
+    by_parts (λ t. Each (P (entry T)) (uses T (One n k rest) t)) (P k) (P rest)
+    (λ t ts p q. each_append (P (entry T)) (uses T k t) (uses T rest ts) (uses_have P c T k i.0 t p) (uses_have P c T rest i.1 ts q)) t (c.one n k rest t h)
+uses_have P c T (Many n k rest) i t h =
+    by_parts (λ t. Each (P (entry T)) (uses T (Many n k rest) t)) (AreElements (P k)) (P rest)
+    (λ t ts p q.
+    each_append (P (entry T)) (walk_each (uses T k) t) (uses T rest ts)
+    (by_elements (λ u. Each (P (entry T)) (walk_each (uses T k) u)) (P k) tt
+    (λ u us m o. each_append (P (entry T)) (uses T k u) (walk_each (uses T k) us) (uses_have P c T k i.0 u m) o) t p)
+    (uses_have P c T rest i.1 ts q)) t (c.many n k rest t h)
+uses_have P c T (Index U k) i t h =
+    let here : P k t = c.index U k t h in
+    each_append (P (entry T)) (cond (same_table T U) (t ∷ []) []) (uses T k t)
+    (each_here (P (entry T)) T U t (λ e. subst (λ z. P z t) (i.0 ∙ ap entry (sym e)) here))
+    (uses_have P c T k i.1 t here)
+uses_have P c T s i t h = tt
+
+-- and of the values of canonical tables, if it holds of the zero values
+pub tables_have : (P : Shape → Tree → Type 0) → IsHandedOn P → ((T : Table) → P (entry T) (zero_value (entry T))) → (s : Shape) → IsSound s → (m : Tree) → P s m
+    → (T : Table) → Each (P (entry T)) (tables_of s m T)
+tables_have P c z s i m h T = each_with_new (P (entry T)) (uses T s m) (zeros T) (z T, tt) (uses_have P c T s i m h)
 
 -- ---- meanings
 
@@ -77,7 +109,7 @@ resolved_means d a (Many n k rest) i x = (each_mean (resolved_means d a k i.0) x
     each_mean f (y ∷ ys) = (f y, each_mean f ys)
 resolved_means d a (Index T k) i x =
     let e : Tree = entry_at (d T) k (Integer x) in
-    let is : IsOf k e = entry_is k (d T) (subst (λ z. Each (IsOf z) (d T)) (sym i.0) (a T)) (Integer x) in
+    let is : IsOf k e = entry_has (IsOf k) k (tree_is k (empty k)) (d T) (subst (λ z. Each (IsOf z) (d T)) (sym i.0) (a T)) (Integer x) in
     subst (λ z. IsMeaning k (resolve d k z)) is (resolved_means d a k i.1 (value k e))
 resolved_means d a s i x = tree_is s x
 
@@ -98,24 +130,6 @@ renumbered_is v (Many n k rest) t h =
 renumbered_is v (Index T k) t h = refl
 renumbered_is v s t h = h
 
--- the walk of a meaning meets meanings of entries
-uses_mean : (T : Table) (s : Shape) → IsSound s → (t : Tree) → IsMeaning s t → Each (IsMeaning (entry T)) (uses T s t)
-uses_mean T (One n k rest) i t h =
-    by_parts (λ t. Each (IsMeaning (entry T)) (uses T (One n k rest) t)) (IsMeaning k) (IsMeaning rest)
-    (λ t ts p q. each_append (IsMeaning (entry T)) (uses T k t) (uses T rest ts) (uses_mean T k i.0 t p) (uses_mean T rest i.1 ts q)) t h
-uses_mean T (Many n k rest) i t h =
-    by_parts (λ t. Each (IsMeaning (entry T)) (uses T (Many n k rest) t)) (AreElements (IsMeaning k)) (IsMeaning rest)
-    (λ t ts p q.
-    each_append (IsMeaning (entry T)) (walk_each (uses T k) t) (uses T rest ts)
-    (by_elements (λ u. Each (IsMeaning (entry T)) (walk_each (uses T k) u)) (IsMeaning k) tt
-    (λ u us m o. each_append (IsMeaning (entry T)) (uses T k u) (walk_each (uses T k) us) (uses_mean T k i.0 u m) o) t p)
-    (uses_mean T rest i.1 ts q)) t h
-uses_mean T (Index U k) i t h =
-    each_append (IsMeaning (entry T)) (cond (same_table T U) (t ∷ []) []) (uses T k t)
-    (each_here (IsMeaning (entry T)) T U t (λ e. subst (λ z. IsMeaning z t) (i.0 ∙ ap entry (sym e)) h))
-    (uses_mean T k i.1 t h)
-uses_mean T s i t h = tt
-
 -- a zero value is a meaning
 zero_means : (s : Shape) → IsMeaning s (zero_value s)
 zero_means (One n k rest) = (zero_means k, zero_means rest)
@@ -125,7 +139,10 @@ zero_means s = tree_is s (empty s)
 
 -- so canonical tables hold meanings of entries
 pub tables_mean : (s : Shape) → IsSound s → (m : Tree) → IsMeaning s m → (T : Table) → Each (IsMeaning (entry T)) (tables_of s m T)
-tables_mean s i m h T = each_with_new (IsMeaning (entry T)) (uses T s m) (zeros T) (zero_means (entry T), tt) (uses_mean T s i m h)
+tables_mean s i m h T = tables_have IsMeaning handed_on (λ U. zero_means (entry U)) s i m h T
+  where
+    handed_on : IsHandedOn IsMeaning
+    handed_on = record { one = λ n k rest t h. h; many = λ n k rest t h. h; index = λ U k t h. h }
 
 -- and their entries are trees of values
 pub entries_are : (s : Shape) → IsSound s → (m : Tree) → IsMeaning s m → (T : Table) → Each (IsOf (entry T)) (entries (tables_of s m) T)

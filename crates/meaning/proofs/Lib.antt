@@ -13,4 +13,5 @@ pub mod Forms
 pub mod Message
 pub mod Texts
 pub mod Unused
+pub mod Ranges
 pub mod Rows

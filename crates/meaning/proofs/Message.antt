@@ -121,7 +121,7 @@ means_the_same k i ms h =
 -- ---- bytes
 
 -- a message of lawful records is lawful
-message_lawful : (k : Shape) → Lawful k → Lawful (message k)
+pub message_lawful : (k : Shape) → Lawful k → Lawful (message k)
 message_lawful k h = (omega arith, omega arith, h, lawful_from (One 2 dictionary End) refl, tt, distinct)
   where
     distinct : (m : ℕ) → HasRow (One 2 dictionary End) m → m ≡ 1 → ⊥

@@ -6,6 +6,7 @@ use Rattle.meaning.specs.Tree.{Tree, Natural, Integer, Boolean, Octets, Nil, Con
 use Rattle.meaning.specs.Tables.{Tables, IsSound, entry}
 use Rattle.meaning.specs.Meaning.{at_parts, at_each, blank, entry_at, resolve, or_blank, filled}
 use Rattle.meaning.specs.Canonical.{HoldsForParts, HoldsForEach, IsIndex, IsWithin}
+use Rattle.meaning.proofs.Forms.{entry_has}
 use Rattle.meaning.proofs.Zero.{filled-at}
 
 -- ---- entries
@@ -24,18 +25,7 @@ blank_within d s = tt
 
 -- and those of each entry, if those of the table's entries are
 entry_within : (d : Tables) (k : Shape) (es : List Tree) → Each (IsWithin d k) es → (t : Tree) → IsWithin d k (entry_at es k t)
-entry_within d k es h (Integer (pos i)) = go es i h
-  where
-    go : (es : List Tree) (i : ℕ) → Each (IsWithin d k) es → IsWithin d k (get_or es i (blank k))
-    go [] i h = blank_within d k
-    go (e ∷ es) zero h = h.0
-    go (e ∷ es) (suc i) h = go es i h.1
-entry_within d k es h (Integer (negsuc i)) = blank_within d k
-entry_within d k es h (Natural n) = blank_within d k
-entry_within d k es h (Boolean b) = blank_within d k
-entry_within d k es h (Octets a) = blank_within d k
-entry_within d k es h Nil = blank_within d k
-entry_within d k es h (Cons t ts) = blank_within d k
+entry_within d k = entry_has (IsWithin d k) k (blank_within d k)
 
 -- what stands behind a list is at none of its places
 front : (es more : List Tree) (i : ℕ) (b : Tree) → i < length es → get_or (es ++ more) i b ≡ get_or es i b

@@ -3,7 +3,7 @@
 //! no body, over all shapes at once.
 #![tactic(auto)]
 
-ghost use Rattle.std.specs.Prelude.{◌≡◌, ℕ, pos, List, [], ◌∷◌, ◌++◌, length, take, map, Ok, true};
+ghost use Rattle.std.specs.Prelude.{◌≡◌, ℕ, ◌<◌, ◌^◌, pos, List, [], ◌∷◌, ◌++◌, length, take, map, Ok, true};
 ghost use Rattle.schema.specs.Fits.{Each, Fits, Lawful};
 ghost use Rattle.schema.specs.Merge.{merge};
 ghost use Rattle.schema.specs.Shape.{IsMessage, Shape, Index, Table, Value, empty};
@@ -129,26 +129,39 @@ pub fn canonical_message_is_in_order()
         → let x = canonical_value k ms in Each (IsWithin (tables_in x.1.0) k) (map (tree k) x.0) }
 {}
 
+/// The canonical message of what a message means can be written, if the message can and the canonical bytes are not too many.
+pub fn canonical_messages_fit()
+    ensures { (k : Shape) → IsMessage k → IsSound k → Lawful k → (x : Value (message k)) → Fits (message k) x
+        → length (meaning_text k (meaning_of k x)) < 2 ^ 31 → Fits (message k) (canonical_value k (meaning_of k x)) }
+{}
+
 /// The canonical bytes of a meaning are read as its canonical message, wherever they begin, if that message can be written.
-/// That it can is not shown here: its numbers and lengths may be out of range.
 pub fn canonical_bytes_are_read()
     ensures { (k : Shape) → Lawful k → (ms : List Tree) → Fits (message k) (canonical_value k ms) → (base : ℕ)
         → merge (message k) (empty (message k)) base (meaning_text k ms) ≡ Ok (canonical_value k ms) }
 {}
 
-/// A message that is rebuilt from its meaning is read as one that means the same, and that would be rebuilt as it is.
+/// A message that is rebuilt from its meaning is read as one that means the same, and that would be rebuilt as it is. This
+/// holds where the canonical message can be written (`read`), and so where the message can (`whole`).
 pub fn rebuilding_keeps_the_meaning()
     ensures read { (k : Shape) → IsSound k → Lawful k → (x : Value (message k)) → Fits (message k) (canonical_value k (meaning_of k x)) → (base : ℕ)
+        → (y : Value (message k)) × (merge (message k) (empty (message k)) base (meaning_text k (meaning_of k x)) ≡ Ok y) × (meaning_of k y ≡ meaning_of k x) }
+    ensures whole { (k : Shape) → IsMessage k → IsSound k → Lawful k → (x : Value (message k)) → Fits (message k) x
+        → length (meaning_text k (meaning_of k x)) < 2 ^ 31 → (base : ℕ)
         → (y : Value (message k)) × (merge (message k) (empty (message k)) base (meaning_text k (meaning_of k x)) ≡ Ok y) × (meaning_of k y ≡ meaning_of k x) }
     ensures again { (k : Shape) → IsSound k → (ms : List Tree) → Each (IsMeaning k) ms
         → meaning_text k (meaning_of k (canonical_value k ms)) ≡ meaning_text k ms }
 {}
 
-/// Meanings that can be written have the same canonical bytes only where they are the same.
+/// Meanings that can be written have the same canonical bytes only where they are the same, and so messages that can be
+/// written only where they mean the same.
 pub fn canonical_bytes_are_unique()
-    ensures { (k : Shape) → IsSound k → Lawful k → (ms : List Tree) → (ns : List Tree) → Each (IsMeaning k) ms → Each (IsMeaning k) ns
+    ensures meanings { (k : Shape) → IsSound k → Lawful k → (ms : List Tree) → (ns : List Tree) → Each (IsMeaning k) ms → Each (IsMeaning k) ns
         → Fits (message k) (canonical_value k ms) → Fits (message k) (canonical_value k ns)
         → meaning_text k ms ≡ meaning_text k ns → ms ≡ ns }
+    ensures messages { (k : Shape) → IsMessage k → IsSound k → Lawful k → (x : Value (message k)) → (y : Value (message k))
+        → Fits (message k) x → Fits (message k) y → length (meaning_text k (meaning_of k x)) < 2 ^ 31
+        → meaning_text k (meaning_of k x) ≡ meaning_text k (meaning_of k y) → meaning_of k x ≡ meaning_of k y }
 {}
 
 /// The canonical bytes are the records, each behind its tag and length, and then the dictionary, which is always written:
