@@ -1,12 +1,13 @@
 -- Files written in order, and what a run leaves of its output.
-use Rattle.std.proofs.Common.{◌≡◌, ◌≤◌, ℕ, List, [], ◌∷◌, ◌++◌, ◌+◌, ◌<◌, inl, inr, length, take, drop, refl, sym, ap, ◌∙◌, get_or, Option, subst, add-one, arith}
+use Rattle.std.proofs.Common.{◌≡◌, ◌≤◌, ℕ, zero, suc, List, [], ◌∷◌, ◌++◌, ◌+◌, ◌<◌, inl, inr, length, take, drop, refl, sym, ap, ◌∙◌, get_or, Option, subst, add-one, arith}
 use Rattle.std.proofs.Math.Seq.{take-suc}
 use Rattle.std.proofs.lemmas.List.{drop_more}
 use Rattle.outside.specs.Causes.{Rose}
 use Rattle.outside.specs.FileMap.{FileMap, written, SameBut}
 use Rattle.collector.specs.declared.stop.Stop.{Stop}
 use Rattle.collector.specs.declared.stop.Stop.TheVariants.{Refused, Read, Write, NoMemory}
-use Rattle.collector.specs.Delivery.{put_files, FirstUntold, FailedAtFile, FileLeft, FilesLeft}
+use Rattle.collector.specs.Causes.{IsOneOf, IsWriteOf}
+use Rattle.collector.specs.Delivery.{put_files, names_of, FirstUntold, FailedAtFile, FileLeft, FilesLeft}
 
 abbrev Files : Type 0
 Files = List (List ℕ × List ℕ)
@@ -48,3 +49,20 @@ left_at fs i f o now new n n' n'' (Read name) lt is so_far later left = left
 left_at fs i f o now new n n' n'' (Write name) lt is so_far later left = failed_at fs i f o now new n n' n'' lt is so_far later left
 left_at fs i f o now new n n' n'' NoMemory lt is so_far later (inl same) = inl (record { done = i; is = same ∙ so_far })
 left_at fs i f o now new n n' n'' NoMemory lt is so_far later (inr failed) = inr (failed_at fs i f o now new n n' n'' lt is so_far later failed)
+
+-- ---- names
+
+-- the name of the file at i is one of theirs
+one_at : (fs : Files) (i : ℕ) (f : List ℕ × List ℕ) (name : List ℕ) → i < length fs → f ≡ get_or fs i f → IsOneOf (f.0 ∷ []) name
+    → IsOneOf (names_of fs) name
+one_at [] i f name lt is h = absurd (omega arith)
+one_at (g ∷ gs) zero f name lt is (inl e) = inl (e ∙ ap (λ (x : List ℕ × List ℕ). x.0) is)
+one_at (g ∷ gs) zero f name lt is (inr none) = absurd none
+one_at (g ∷ gs) (suc i) f name lt is h = inr (one_at gs i f name (omega arith) is h)
+
+-- so where the one at i stops, the stop is of the files
+pub named_at : (fs : Files) (i : ℕ) (f : List ℕ × List ℕ) (stop : Stop) → i < length fs → f ≡ get_or fs i f → IsWriteOf (f.0 ∷ []) stop → IsWriteOf (names_of fs) stop
+named_at fs i f (Refused refusal) lt is h = h
+named_at fs i f (Read name) lt is h = h
+named_at fs i f (Write name) lt is h = one_at fs i f name lt is h
+named_at fs i f NoMemory lt is h = tt

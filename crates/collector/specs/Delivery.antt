@@ -1,5 +1,5 @@
 -- What is written of an output, wholly or in part.
-use Rattle.std.specs.Prelude.{◌≡◌, ◌≢◌, ◌⊎◌, ℕ, List, [], ◌∷◌, take, drop, Option, Some, Result, Ok, Err}
+use Rattle.std.specs.Prelude.{◌≡◌, ◌≢◌, ◌⊎◌, ℕ, List, [], ◌∷◌, map, take, drop, Option, Some, Result, Ok, Err}
 use Rattle.outside.specs.Causes.{Rose}
 use Rattle.outside.specs.FileMap.{FileMap, written, SameBut}
 use Rattle.outside.specs.Told.{appended, TookPrefix}
@@ -22,6 +22,10 @@ seen told faults taken out_faults = record { told = told; faults = faults; taken
 abbrev pub put_files : List (List ℕ × List ℕ) → Option FileMap → Option FileMap
 put_files [] told = told
 put_files (f ∷ fs) told = put_files fs (written f.0 f.1 told)
+
+-- the names of files
+abbrev pub names_of : List (List ℕ × List ℕ) → List (List ℕ)
+names_of files = map (λ f. f.0) files
 
 -- the first of these files is untold, and every other name is as before
 abbrev pub FirstUntold : List (List ℕ × List ℕ) → Option FileMap → Option FileMap → Type 0
@@ -113,13 +117,6 @@ OutputLeft output before now (Refused refusal) = ⊥
 OutputLeft output before now (Read name) = ⊥
 OutputLeft output before now (Write name) = WriteFailed output before now
 OutputLeft output before now NoMemory = Partly output before now
-
--- the stop is a failed write, or want of memory
-abbrev pub IsOfWrite : Stop → Type 0
-IsOfWrite (Refused refusal) = ⊥
-IsOfWrite (Read name) = ⊥
-IsOfWrite (Write name) = Unit {0}
-IsOfWrite NoMemory = Unit {0}
 
 -- the status is of the answer: no fault and no want of memory
 pub record IsAnswered (status : ℕ) : Type 0 where

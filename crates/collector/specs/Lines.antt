@@ -1,8 +1,7 @@
 -- The statuses, and the lines that are printed.
-use Rattle.std.specs.Prelude.{◌≡◌, ℕ, List, [], ◌∷◌, ◌++◌, codes, Option, Result, Ok, Err, nat_eq, IsTrue}
+use Rattle.std.specs.Prelude.{ℕ, List, [], ◌∷◌, ◌++◌, codes, Result, Ok, Err, nat_eq, IsTrue}
 use Rattle.std.specs.List.{list_any}
 use Rattle.std.specs.Fmt.{decimal}
-use Rattle.outside.specs.Told.{appended}
 use Rattle.collector.specs.declared.words.ToolPlan.{ToolPlan}
 use Rattle.collector.specs.declared.words.WordReason.{WordReason}
 use Rattle.collector.specs.declared.words.WordReason.TheVariants.{NoCommand, UnknownCommand, MissingWord, ExtraWord}
@@ -91,8 +90,3 @@ words_line (Err refusal) = line_of (stop_of_words refusal)
 -- the statuses that a run may answer
 abbrev pub IsStatus : ℕ → Type 0
 IsStatus status = IsTrue (list_any (λ known. nat_eq status known) (0 ∷ 1 ∷ 2 ∷ 5 ∷ 6 ∷ 7 ∷ 8 ∷ []))
-
--- what was taken grew by a text that begins so and ends with a line feed
-pub record TookLine (start : List ℕ) (old new : Option (List ℕ)) : Type 0 where
-  pub rest : List ℕ
-  pub is : new ≡ appended old (start ++ (rest ++ end_of_line))

@@ -30,6 +30,13 @@ planned (command ∷ rest) =
     if is_word command (codes "canon") then two_words Canon rest
     else Err (Fault 0 UnknownCommand)
 
+-- the files that a plan reads, and those that it writes
+abbrev pub inputs : ToolPlan → List (List ℕ)
+inputs (Canon file target) = file ∷ []
+
+abbrev pub targets : ToolPlan → List (List ℕ)
+targets (Canon file target) = target ∷ []
+
 -- the refusal is the one that is wanted, or memory was wanting
 abbrev pub IsWordRefusal : Result ToolPlan WordRefusal → WordRefusal → Type 0
 IsWordRefusal want (Fault place reason) = want ≡ Err (Fault place reason)

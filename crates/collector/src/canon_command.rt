@@ -1,8 +1,9 @@
 //! The command `canon`.
-ghost use Rattle.std.specs.Prelude.{◌≡◌, ◌≤◌, Ok, IfOk, IfErr, IfSome};
+ghost use Rattle.std.specs.Prelude.{◌≡◌, ◌≤◌, [], ◌∷◌, Ok, IfOk, IfErr, IfSome};
 ghost use Rattle.otlp_msg.specs.Checked.{value_of};
 ghost use Rattle.collector.specs.CanonAnswer.{canon_answer, canon_in, canon_file};
 ghost use Rattle.collector.specs.Causes.{IsStop, ReadCause, IsOfInput, IsNoFault};
+ghost use Rattle.collector.specs.Delivery.{names_of};
 ghost use Rattle.collector.specs.Outputs.{one_file};
 
 use crate::lines::wrote_line;
@@ -22,8 +23,9 @@ pub fn perform_canon<F: Files>(
 ) -> Result<Output, Stop>
     ensures ok { IfOk result (λ output. IfSome (F.told files.old) (λ m. canon_answer m file.now target.now ≡ Ok output)) }
     ensures stopped { IfErr result (λ stop. IfSome (F.told files.old) (λ m. IsStop (canon_answer m file.now target.now) stop)) }
+    ensures targets { IfOk result (λ output. names_of output.files ≡ target.now ∷ []) }
     ensures same { F.told files.new ≡ F.told files.old }
-    ensures cause { IfErr result (ReadCause (F.faults files.old) (F.faults files.new)) }
+    ensures cause { IfErr result (ReadCause (file.now ∷ []) (F.faults files.old) (F.faults files.new)) }
     ensures later { F.faults files.old ≤ F.faults files.new }
     ensures sound { F.sound files.old → F.sound files.new × IfErr result IsNoFault }
 {
@@ -37,6 +39,7 @@ pub fn perform_canon<F: Files>(
 fn canon_in(alloc: Global, file: &Text, body: &[u8], target: &Text) -> Result<Output, Stop>
     ensures ok { IfOk result (λ output. canon_in file.now target.now body.now ≡ Ok output) }
     ensures stopped { IfErr result (IsStop (canon_in file.now target.now body.now)) }
+    ensures targets { IfOk result (λ output. names_of output.files ≡ target.now ∷ []) }
     ensures cause { IfErr result IsOfInput }
 {
     match checked_message(alloc, file, body) {
@@ -49,6 +52,7 @@ fn canon_in(alloc: Global, file: &Text, body: &[u8], target: &Text) -> Result<Ou
 fn canon_file(alloc: Global, target: &Text, message: &Checked<'_>) -> Result<Output, Stop>
     ensures ok { IfOk result (λ output. canon_file target.now (value_of message.now) ≡ Ok output) }
     ensures stopped { IfErr result (IsStop (canon_file target.now (value_of message.now))) }
+    ensures targets { IfOk result (λ output. names_of output.files ≡ target.now ∷ []) }
     ensures cause { IfErr result IsOfInput }
 {
     match canon(alloc, message) {

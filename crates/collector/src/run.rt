@@ -1,11 +1,11 @@
 //! The top call of the tool.
-ghost use Rattle.std.specs.Prelude.{◌≡◌, ◌≢◌, ◌<◌, ◌⊎◌, Some, IsOk, IsErr, OnOk, IfErr, IfSome, MatchResult, codes};
+ghost use Rattle.std.specs.Prelude.{◌≡◌, ◌≢◌, ◌<◌, ◌⊎◌, Some, IsOk, IsErr, OnOk, IfErr, IfSome, MatchResult};
 ghost use Rattle.outside.specs.Causes.{Rose};
 ghost use Rattle.outside.specs.Told.{appended};
 ghost use Rattle.collector.specs.Plan.{planned, texts_of};
-ghost use Rattle.collector.specs.Lines.{IsStatus, TookLine, words_line};
+ghost use Rattle.collector.specs.Lines.{IsStatus, words_line};
 ghost use Rattle.collector.specs.Answer.{outcome, answer};
-ghost use Rattle.collector.specs.Causes.{IsStop, IsNoFault, WordsCause, FaultCause};
+ghost use Rattle.collector.specs.Causes.{IsStop, IsNoFault, WordsCause, FaultCause, TookRead, TookWrite};
 ghost use Rattle.collector.specs.Delivery.{seen, put_files, Delivered, FailedDelivery, PartDelivered, LeftAtWrite, Unchanged, Untouched, IsAnswered};
 
 use crate::{Stop, perform, plan, tell, write_output};
@@ -25,7 +25,7 @@ fn carry_out<F: Files, O: Sink>(
         Delivered (outcome (texts_of words.now) m) m (F.told files.new) (O.taken out.old) (O.taken out.new))) }
     ensures stopped { IfErr result (λ stop. IfSome (F.told files.old) (λ m. IsStop (outcome (texts_of words.now) m) stop)) }
     ensures words { MatchResult result (λ _. IsOk (planned (texts_of words.now))) (WordsCause (planned (texts_of words.now))) }
-    ensures fault { IfErr result (FaultCause (F.faults files.old) (F.faults files.new) (O.faults out.old) (O.faults out.new)) }
+    ensures fault { IfErr result (FaultCause (planned (texts_of words.now)) (F.faults files.old) (F.faults files.new) (O.faults out.old) (O.faults out.new)) }
     ensures sound { F.sound files.old → O.sound out.old → IfErr result IsNoFault }
     ensures unchanged { IfErr result (λ stop. Unchanged stop
         (seen (F.told files.old) (F.faults files.old) (O.taken out.old) (O.faults out.old))
@@ -73,13 +73,14 @@ pub fn run_tool<F: Files, O: Sink, E: Sink, M: Seeds>(
     ensures words_line { result ≡ 1 → ¬ (Rose (E.faults err.old) (E.faults err.new)) →
         E.taken err.new ≡ appended (E.taken err.old) (words_line (planned (texts_of words.now))) }
 
-    // A fault is answered only where a count rose. Its line begins so; the name in it is not promised.
+    // A fault is answered only where a count rose. Its line names a file that the words name, or the standard output.
     ensures read_fault { result ≡ 6 → Rose (F.faults files.old) (F.faults files.new) }
     ensures write_fault { result ≡ 8 → Rose (F.faults files.old) (F.faults files.new) ⊎ Rose (O.faults out.old) (O.faults out.new) }
     ensures read_line { result ≡ 6 → ¬ (Rose (E.faults err.old) (E.faults err.new)) →
-        TookLine (codes "read failed: ") (E.taken err.old) (E.taken err.new) }
+        TookRead (planned (texts_of words.now)) (E.taken err.old) (E.taken err.new) }
     ensures write_line { result ≡ 8 → ¬ (Rose (E.faults err.old) (E.faults err.new)) →
-        TookLine (codes "write failed: ") (E.taken err.old) (E.taken err.new) }
+        TookWrite (planned (texts_of words.now)) (F.faults files.old) (F.faults files.new) (O.faults out.old) (O.faults out.new)
+        (E.taken err.old) (E.taken err.new) }
 
     // What stays where nothing, or not all, was written.
     ensures unchanged { 0 < result → result < 7 → Untouched

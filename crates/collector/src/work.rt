@@ -1,6 +1,8 @@
 //! What a plan comes to: all is read and computed here, and nothing is written.
 ghost use Rattle.std.specs.Prelude.{◌≡◌, ◌≤◌, Ok, IfOk, IfErr, IfSome};
 ghost use Rattle.collector.specs.Answer.{performed};
+ghost use Rattle.collector.specs.Plan.{inputs, targets};
+ghost use Rattle.collector.specs.Delivery.{names_of};
 ghost use Rattle.collector.specs.Causes.{IsStop, ReadCause, IsNoFault};
 
 use crate::canon_command::perform_canon;
@@ -12,8 +14,9 @@ use std::alloc::Global;
 pub fn perform<F: Files>(alloc: Global, plan: &ToolPlan, files: &mut F) -> Result<Output, Stop>
     ensures ok { IfOk result (λ output. IfSome (F.told files.old) (λ m. performed plan.now m ≡ Ok output)) }
     ensures stopped { IfErr result (λ stop. IfSome (F.told files.old) (λ m. IsStop (performed plan.now m) stop)) }
+    ensures targets { IfOk result (λ output. names_of output.files ≡ targets plan.now) }
     ensures same { F.told files.new ≡ F.told files.old }
-    ensures cause { IfErr result (ReadCause (F.faults files.old) (F.faults files.new)) }
+    ensures cause { IfErr result (ReadCause (inputs plan.now) (F.faults files.old) (F.faults files.new)) }
     ensures later { F.faults files.old ≤ F.faults files.new }
     ensures sound { F.sound files.old → F.sound files.new × IfErr result IsNoFault }
 {

@@ -1,5 +1,5 @@
 use Rattle.std.proofs.Common.{arith}
-use Rattle.collector.proofs.Writing.{put_files_more, left_at}
+use Rattle.collector.proofs.Writing.{put_files_more, left_at, named_at}
 use Rattle.collector.proofs.deliver.write_files.Goals as goal
 
 pub loop-name-preserved : goal.loop-name-preserved
@@ -12,3 +12,6 @@ loop-name-preserved g c = record {
 pub returns-in-Err-clause-left : goal.returns-in-Err-clause-left
 returns-in-Err-clause-left g c =
     left_at _ _ _ _ _ _ _ _ _ _ c.loop-name-test.true c.loop-name-item.is c.loop-name.invariant.told c.loop-name.invariant.later c.in-Err.ensures.left
+
+pub returns-in-Err-clause-named : goal.returns-in-Err-clause-named
+returns-in-Err-clause-named g c = named_at _ _ _ _ c.loop-name-test.true c.loop-name-item.is c.in-Err.ensures.named
