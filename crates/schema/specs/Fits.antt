@@ -1,13 +1,12 @@
 -- Values that a program can write and read again, and shapes whose rows can be told apart.
-use Rattle.std.specs.Prelude.{◌≡◌, ℕ, ◌<◌, ◌^◌, List, [], ◌∷◌, length, nat_lt, ◌==◌, Bool, true, false, not, ◌&&◌, ◌||◌, ◌⊎◌}
+use Rattle.std.specs.Prelude.{◌≡◌, ℕ, ◌<◌, ◌^◌, List, [], length, nat_lt, ◌==◌, Bool, true, false, not, ◌&&◌, ◌||◌, ◌⊎◌}
 use Rattle.std.specs.Str.{is_utf8}
-use Rattle.schema.specs.Shape.{Shape, Number, Fixed, Bytes, Text, Any, Index, Unbuilt, End, One, Many, Format, I32, NumberValue, Value, IsMessage, number_from}
-use Rattle.schema.specs.Spell.{number_to, numbers_text, fixed_text, spell}
-
--- P holds of each element
-abbrev pub Each : {A : Type 0} → (A → Type 0) → List A → Type 0
-Each P [] = Unit {0}
-Each P (x ∷ xs) = P x × Each P xs
+use Rattle.schema.specs.Each.{Each}
+use Rattle.schema.specs.Shape.{Shape, Number, Fixed, Bytes, Text, Any, Index, Unbuilt, End, One, Many, I32, Value, IsMessage}
+use Rattle.schema.specs.Texts.{FitsNumber, numbers_text, fixed_text}
+use Rattle.schema.specs.Spell.{spell}
+use Rattle.schema.specs.AnyMerge.{any_levels}
+use Rattle.schema.specs.AnySpell.{FitsAny, FitsIfWritten}
 
 -- ---- shapes
 
@@ -48,27 +47,23 @@ ascends n s = true
 
 -- ---- values
 
--- a number is one of its format
-abbrev pub FitsNumber : (w : Format) → NumberValue w → Type 0
-FitsNumber w x = (number_to w x < 2 ^ 64) × (number_from w (number_to w x) ≡ x)
-
 -- what a repeated row asks of its elements together
 abbrev pub FitsTogether : (s : Shape) → List (Value s) → Type 0
 FitsTogether (Number w) vs = length (numbers_text w vs) < 2 ^ 64
 FitsTogether (Index T entry) vs = length (numbers_text I32 vs) < 2 ^ 64
 FitsTogether Fixed vs = length (fixed_text vs) < 2 ^ 64
-FitsTogether (Any depth) vs = vs ≡ []
+FitsTogether (Any depth) vs = Each (FitsAny (any_levels depth)) vs
 FitsTogether (Unbuilt k) vs = vs ≡ []
 FitsTogether s vs = Unit {0}
 
--- numbers are in their range, texts are UTF-8, and each length can be written
+-- numbers are in their range, texts are UTF-8, AnyValues are not too deep, and each length can be written
 abbrev pub Fits : (s : Shape) → Value s → Type 0
 Fits (Number w) x = FitsNumber w x
 Fits (Index T entry) x = FitsNumber I32 x
 Fits Fixed x = x < 2 ^ 64
 Fits Bytes x = length x < 2 ^ 64
 Fits Text x = (is_utf8 x ≡ true) × (length x < 2 ^ 64)
-Fits (Any depth) x = Unit {0}
+Fits (Any depth) x = FitsIfWritten (any_levels depth) x
 Fits (Unbuilt k) x = Unit {0}
 Fits End x = Unit {0}
 Fits (One n k rest) x = Fits k x.0 × (length (spell k x.0) < 2 ^ 64) × Fits rest x.1

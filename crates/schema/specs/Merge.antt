@@ -2,17 +2,13 @@
 -- the first fault; both are laws, against the relations of `Value` and `FirstFault`.
 use Rattle.std.specs.Prelude.{ℕ, zero, suc, ◌-◌, ◌/◌, ◌%◌, List, [], ◌∷◌, ◌++◌, length, take, drop, Result, Ok, Err, ◌==◌, if◌then◌else◌}
 use Rattle.std.specs.Int.{w64, from_le_bytes}
-use Rattle.std.specs.Str.{is_utf8}
 use Rattle.schema.specs.Field.{Payload, Varint, Eight, Long, Field}
-use Rattle.schema.specs.Fault.{Reason, Truncated, NotUtf8, PackedLength, NotBuilt, Fault, fault_at}
-use Rattle.schema.specs.Steps.{◌>>=◌, varint_at, Trace, Done, Bad, Met, trace}
+use Rattle.schema.specs.Fault.{Reason, Truncated, PackedLength, NotBuilt, Fault, fault_at}
+use Rattle.schema.specs.Steps.{◌>>=◌, varint_at, trace}
+use Rattle.schema.specs.Run.{run, text_of, one_text}
+use Rattle.schema.specs.Parts.{Part, run_all}
 use Rattle.schema.specs.Shape.{Shape, Number, Fixed, Bytes, Text, Any, Index, Unbuilt, End, One, Many, Format, I32, NumberValue, Value, number_from, empty, fits_one, fits_many}
-
--- goes over the fields from left to right
-unfoldable pub run : {S : Type 0} → (ℕ → ℕ → Field → S → Result S Fault) → S → Trace → Result S Fault
-run step s Done = Ok s
-run step s (Bad at reason) = Err (fault_at at reason)
-run step s (Met at end f rest) = step at end f s >>= λ t. run step t rest
+use Rattle.schema.specs.AnyMerge.{add_element, any_levels, go_on, item_at, merge_any}
 
 abbrev pub at_place : {A : Type 0} → ℕ → Result A Reason → Result A Fault
 at_place at (Ok x) = Ok x
@@ -58,13 +54,6 @@ abbrev pub one_bytes : Payload → List ℕ → List ℕ
 one_bytes (Long b) v = b
 one_bytes payload v = v
 
-abbrev pub text_of : ℕ → List ℕ → Result (List ℕ) Fault
-text_of at b = if is_utf8 b then Ok b else Err (fault_at at NotUtf8)
-
-abbrev pub one_text : ℕ → Payload → List ℕ → Result (List ℕ) Fault
-one_text at (Long b) v = text_of at b
-one_text at payload v = Ok v
-
 -- a payload that fits a row that is not read yet is refused, and any other is skipped
 abbrev pub refuse_one : {A : Type 0} → Shape → ℕ → Payload → A → Result A Fault
 refuse_one k at payload v = if fits_one k payload then Err (fault_at at NotBuilt) else Ok v
@@ -79,7 +68,7 @@ take_one (Index T entry) inside at end payload v = Ok (one_number I32 payload v)
 take_one Fixed inside at end payload v = Ok (one_fixed payload v)
 take_one Bytes inside at end payload v = Ok (one_bytes payload v)
 take_one Text inside at end payload v = one_text at payload v
-take_one (Any depth) inside at end payload v = refuse_one (Any depth) at payload v
+take_one (Any depth) inside at end payload v = go_on (merge_any (any_levels depth)) at end payload v
 take_one (Unbuilt k) inside at end payload v = refuse_one k at payload v
 take_one End inside at end (Long b) v = run inside v (trace (end - length b) b)
 take_one (One n k rest) inside at end (Long b) v = run inside v (trace (end - length b) b)
@@ -118,7 +107,7 @@ take_many (Index T entry) inside at end payload vs = more_numbers I32 at payload
 take_many Fixed inside at end payload vs = more_fixed at payload vs
 take_many Bytes inside at end payload vs = Ok (more_bytes payload vs)
 take_many Text inside at end payload vs = more_texts at payload vs
-take_many (Any depth) inside at end payload vs = refuse_many (Any depth) at payload vs
+take_many (Any depth) inside at end payload vs = add_element (item_at (merge_any (any_levels depth))) at end payload vs
 take_many (Unbuilt k) inside at end payload vs = refuse_many k at payload vs
 take_many End inside at end (Long b) vs = run inside (empty End) (trace (end - length b) b) >>= λ v. Ok (vs ++ v ∷ [])
 take_many (One n k rest) inside at end (Long b) vs = run inside (empty (One n k rest)) (trace (end - length b) b) >>= λ v. Ok (vs ++ v ∷ [])
@@ -148,12 +137,6 @@ take_field (Many n k rest) at end f v =
 abbrev pub merge : (s : Shape) → Value s → ℕ → List ℕ → Result (Value s) Fault
 merge s v base bytes = run (take_field s) v (trace base bytes)
 
--- bytes of a singular message, and where they begin
-pub record Part : Type 0 where
-  pub bytes : List ℕ
-  pub base : ℕ
-
 -- The occurrences of one singular message, in order, are its value, or their first fault.
 abbrev pub merge_all : (s : Shape) → Value s → List Part → Result (Value s) Fault
-merge_all s v [] = Ok v
-merge_all s v (p ∷ ps) = merge s v p.base p.bytes >>= λ w. merge_all s w ps
+merge_all s v parts = run_all (take_field s) v parts

@@ -1,34 +1,22 @@
 -- The schema: the messages of the OpenTelemetry Profiles signal, a line a message. It is after
 -- opentelemetry-proto 1.9.0 (`common/v1`, `resource/v1`, `profiles/v1development` and its collector service), which is
 -- under development; this table alone decides the fields and their numbers. A field's name stands in the comment, and a
--- field that is not read yet is marked `Unbuilt`; `unbuilt` marks each field of a message, and `without` those named.
-use Rattle.std.specs.Prelude.{ℕ, ◌+◌, [], ◌∷◌}
-use Rattle.schema.specs.Shape.{Shape, Number, Fixed, Bytes, Text, Any, Index, Unbuilt, End, One, Many, U32, U64, I32, I64, Flag, Table, Mappings, Locations, Functions, Links, Strings, Attributes, Stacks, unbuilt, without}
+-- field that is not read yet is marked `Unbuilt`; `without` marks those named.
+use Rattle.std.specs.Prelude.{ℕ, [], ◌∷◌}
+use Rattle.schema.specs.Shape.{Shape, Number, Fixed, Bytes, Text, Any, Index, Unbuilt, End, One, Many, U32, U64, I32, I64, Table, Mappings, Locations, Functions, Links, Strings, Attributes, Stacks, without}
 
 -- an index into the string table
 abbrev pub string : Shape
 string = Index Strings Text
 
--- ArrayValue of an AnyValue of this depth: 1 values
-abbrev pub array_value : ℕ → Shape
-array_value depth = Many 1 (Any (depth + 1)) End
-
--- KeyValue: 1 key, 2 value
+-- KeyValue, whose value is an AnyValue of this depth: 1 key, 2 value. The fields of an AnyValue are in `AnyMember`, and those of
+-- the messages in it in `AnyMerge`.
 abbrev pub key_value : ℕ → Shape
 key_value depth = One 1 Text (One 2 (Any depth) End)
 
--- KeyValueList of an AnyValue of this depth: 1 values
-abbrev pub key_value_list : ℕ → Shape
-key_value_list depth = Many 1 (key_value (depth + 1)) End
-
--- AnyValue, of which at most one field is set: 1 string_value, 2 bool_value, 3 int_value, 4 double_value, 5 array_value,
--- 6 kvlist_value, 7 bytes_value
-abbrev pub any_value : ℕ → Shape
-any_value depth = One 1 Text (One 2 (Number Flag) (One 3 (Number I64) (One 4 Fixed (One 5 (array_value depth) (One 6 (key_value_list depth) (One 7 Bytes End))))))
-
 -- Attr (KeyValueAndUnit): 1 key_strindex, 2 value, 3 unit_strindex
 abbrev pub attribute : Shape
-attribute = One 1 string (One 2 (Any 1) (One 3 string End))
+attribute = One 1 string (One 2 (Unbuilt (Any 1)) (One 3 string End))
 
 -- Function: 1 name_strindex, 2 system_name_strindex, 3 filename_strindex, 4 start_line
 abbrev pub function : Shape
@@ -67,9 +55,9 @@ sample = One 1 (Index Stacks stack) (Many 2 (Number I64) (Many 3 (Index Attribut
 abbrev pub profile : Shape
 profile = One 1 value_type (Many 2 sample (One 3 Fixed (One 4 (Number U64) (One 5 value_type (One 6 (Number I64) (One 7 Bytes (One 8 (Number U32) (One 9 Text (One 10 Bytes (Many 11 (Index Attributes attribute) End))))))))))
 
--- a profile as far as it is read: without its types, its samples and its attributes
+-- a profile as far as it is read: without its samples and its attributes
 abbrev pub plain_profile : Shape
-plain_profile = without (1 ∷ 2 ∷ 5 ∷ 11 ∷ []) profile
+plain_profile = without (2 ∷ 11 ∷ []) profile
 
 -- Scope: 1 name, 2 version, 3 attributes, 4 dropped_attributes_count
 abbrev pub scope : Shape
@@ -97,25 +85,17 @@ entry Strings = Text
 entry Attributes = attribute
 entry Stacks = stack
 
--- as far as they are read: the texts alone
-abbrev pub read_entry : Table → Shape
-read_entry Strings = Text
-read_entry T = unbuilt (entry T)
-
--- Dictionary, of such entries: 1 mapping_table, 2 location_table, 3 function_table, 4 link_table, 5 string_table,
--- 6 attribute_table, 7 stack_table
-abbrev pub dictionary_shape : (Table → Shape) → Shape
-dictionary_shape e = Many 1 (e Mappings) (Many 2 (e Locations) (Many 3 (e Functions) (Many 4 (e Links) (Many 5 (e Strings) (Many 6 (e Attributes) (Many 7 (e Stacks) End))))))
-
+-- Dictionary: 1 mapping_table, 2 location_table, 3 function_table, 4 link_table, 5 string_table, 6 attribute_table,
+-- 7 stack_table
 abbrev pub dictionary : Shape
-dictionary = dictionary_shape read_entry
+dictionary = Many 1 mapping (Many 2 location (Many 3 function (Many 4 link (Many 5 Text (Many 6 attribute (Many 7 stack End))))))
 
--- Envelope (ProfilesData, and the export request), of such records and dictionary: 1 resource_profiles, 2 dictionary
-abbrev pub envelope_shape : Shape → Shape → Shape
-envelope_shape records entries = Many 1 records (One 2 entries End)
+-- Envelope (ProfilesData, and the export request), of such records: 1 resource_profiles, 2 dictionary
+abbrev pub message : Shape → Shape
+message records = Many 1 records (One 2 dictionary End)
 
 abbrev pub envelope : Shape
-envelope = envelope_shape resource_profiles dictionary
+envelope = message resource_profiles
 
 -- Partial success of an export: 1 rejected_profiles, 2 error_message
 abbrev pub partial_success : Shape

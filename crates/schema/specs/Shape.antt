@@ -3,6 +3,7 @@ use Rattle.std.specs.Prelude.{ℕ, ℤ, pos, ◌%◌, ◌^◌, List, [], Bool, f
 use Rattle.std.specs.Int.{w32, w64, cast_signed}
 use Rattle.std.specs.List.{list_any}
 use Rattle.schema.specs.Field.{Payload, wire_type}
+use Rattle.schema.specs.AnyValue.{AnyValue}
 
 -- how a number is written as a varint
 pub data Format : Type 0 where
@@ -30,7 +31,7 @@ pub data Shape : Type 0 where
   Fixed : Shape
   Bytes : Shape
   Text : Shape
-  -- an AnyValue of this depth, which is not read yet
+  -- an AnyValue of this depth
   Any : ℕ → Shape
   Index : Table → Shape → Shape
   -- a row that is not read yet
@@ -39,7 +40,7 @@ pub data Shape : Type 0 where
   One : ℕ → Shape → Shape → Shape
   Many : ℕ → Shape → Shape → Shape
 
--- a message, and no number, bytes or text
+-- a message, and no number, bytes, text or AnyValue
 abbrev pub IsMessage : Shape → Type 0
 IsMessage End = Unit {0}
 IsMessage (One n k rest) = Unit {0}
@@ -59,7 +60,7 @@ Value (Number w) = NumberValue w
 Value Fixed = ℕ
 Value Bytes = List ℕ
 Value Text = List ℕ
-Value (Any depth) = Unit {0}
+Value (Any depth) = AnyValue
 Value (Index T entry) = ℤ
 Value (Unbuilt k) = Unit {0}
 Value End = Unit {0}
@@ -88,7 +89,7 @@ empty (Number w) = number_zero w
 empty Fixed = 0
 empty Bytes = []
 empty Text = []
-empty (Any depth) = tt
+empty (Any depth) = AnyValue.Empty
 empty (Index T entry) = pos 0
 empty (Unbuilt k) = tt
 empty End = tt
@@ -116,9 +117,3 @@ abbrev pub without : List ℕ → Shape → Shape
 without ns (One n k rest) = One n (if list_any (λ m. m == n) ns then Unbuilt k else k) (without ns rest)
 without ns (Many n k rest) = Many n (if list_any (λ m. m == n) ns then Unbuilt k else k) (without ns rest)
 without ns s = s
-
--- the same message with no row that is read
-abbrev pub unbuilt : Shape → Shape
-unbuilt (One n k rest) = One n (Unbuilt k) (unbuilt rest)
-unbuilt (Many n k rest) = Many n (Unbuilt k) (unbuilt rest)
-unbuilt s = s

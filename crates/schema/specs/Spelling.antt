@@ -1,7 +1,7 @@
 -- The field spelling: which fields a byte list spells (Protocol Buffers, "Encoding": "Base 128 Varints", "Message
 -- Structure", "Length-Delimited Records"). Nothing here steps along the bytes; each line speaks of whole lists.
 use Rattle.std.specs.Prelude.{◌≡◌, ℕ, suc, ◌+◌, ◌*◌, ◌%◌, ◌^◌, ◌<◌, ◌≤◌, List, [], ◌∷◌, ◌++◌, length}
-use Rattle.schema.specs.Fits.{Each}
+use Rattle.schema.specs.Each.{Each}
 use Rattle.schema.specs.Field.{Payload, Varint, Eight, Long, Four, Field, wire_type, greatest_number}
 use Rattle.schema.specs.Steps.{Trace, Done, Met}
 

@@ -4,7 +4,7 @@
 
 ghost use Rattle.std.specs.Prelude.{◌≡◌, true};
 ghost use Rattle.schema.specs.Fits.{ascends, is_lawful};
-ghost use Rattle.schema.specs.Messages.{envelope, dictionary, resource_profiles, resource, scope_profiles, scope, profile, plain_profile, sample, value_type, link, stack, mapping, location, line, function, attribute, key_value, any_value, array_value, key_value_list, export_response, rpc_status};
+ghost use Rattle.schema.specs.Messages.{envelope, dictionary, resource_profiles, resource, scope_profiles, scope, profile, plain_profile, sample, value_type, link, stack, mapping, location, line, function, attribute, key_value, export_response, rpc_status};
 
 /// In each message of the schema no two fields have one number, and each number is one that a tag can hold. A field that is
 /// not read yet, an index and an AnyValue are not looked into, so each message is named.
@@ -26,9 +26,6 @@ pub fn table_is_lawful()
     ensures function { is_lawful function ≡ true }
     ensures attribute { is_lawful attribute ≡ true }
     ensures key_value { is_lawful (key_value 1) ≡ true }
-    ensures any_value { is_lawful (any_value 1) ≡ true }
-    ensures array_value { is_lawful (array_value 1) ≡ true }
-    ensures key_value_list { is_lawful (key_value_list 1) ≡ true }
     ensures export_response { is_lawful export_response ≡ true }
     ensures rpc_status { is_lawful rpc_status ≡ true }
 {}
@@ -53,9 +50,6 @@ pub fn rows_ascend()
     ensures function { ascends 0 function ≡ true }
     ensures attribute { ascends 0 attribute ≡ true }
     ensures key_value { ascends 0 (key_value 1) ≡ true }
-    ensures any_value { ascends 0 (any_value 1) ≡ true }
-    ensures array_value { ascends 0 (array_value 1) ≡ true }
-    ensures key_value_list { ascends 0 (key_value_list 1) ≡ true }
     ensures export_response { ascends 0 export_response ≡ true }
     ensures rpc_status { ascends 0 rpc_status ≡ true }
 {}

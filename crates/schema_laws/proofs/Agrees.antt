@@ -1,23 +1,28 @@
 -- The step of each shape fails exactly where a payload has a fault, with that fault, and otherwise depends on no place.
-use Rattle.std.proofs.Common.{◌≡◌, ℕ, ◌-◌, ◌%◌, Bool, true, false, cond, List, [], ◌∷◌, ◌++◌, length, Result, Ok, Err, refl, sym, ap, ◌∙◌, inl, inr}
-use Rattle.std.specs.Prelude.{◌⊎◌, ◌==◌}
+use Rattle.std.proofs.Common.{◌≡◌, ℕ, ◌-◌, ◌%◌, List, [], ◌∷◌, ◌++◌, length, Result, Ok, Err, sym, ap, ◌∙◌}
+use Rattle.std.specs.Prelude.{◌==◌}
 use Rattle.std.specs.Str.{is_utf8}
 use Rattle.std.proofs.lemmas.Bool.{eqb-true, eqb-false, ne_eqb}
 use Rattle.schema.specs.Field.{Long, Payload}
 use Rattle.schema.specs.Fault.{Fault, NotBuilt, NotUtf8, PackedLength, Reason, fault_at}
 use Rattle.schema.specs.Steps.{◌>>=◌}
 use Rattle.schema.specs.Shape.{Any, Bytes, Fixed, Format, I32, Index, Many, Number, NumberValue, One, Shape, Text, Unbuilt, Value, empty, fits_many, fits_one}
-use Rattle.schema.specs.Merge.{at_place, merge, packed, packed_fixed, take_many, more_numbers, take_one, more_packed, take_field, text_of}
-use Rattle.schema.specs.FirstFault.{BadPacked, FieldFault, FirstFault, HasFault, ManyFault, OneFault}
+use Rattle.schema.specs.Merge.{at_place, merge, packed, packed_fixed, take_many, more_numbers, take_one, more_packed, take_field}
+use Rattle.schema.specs.Run.{text_of}
+use Rattle.schema.specs.FirstFault.{BadPacked, FirstFault}
+use Rattle.schema.specs.MessageFault.{FieldFault, HasFault, ManyFault, OneFault}
 use Rattle.schema_laws.proofs.Results.{err_is, map_err, map_at, map_both, checked, checked_err, checked_fails, checked_steady, refused_err, refused_fails, refused_steady}
-use Rattle.schema_laws.proofs.StepFaults.{Hits, Misses, Steady, fault_found, fault_read, moved}
+use Rattle.schema_laws.proofs.StepFaults.{fault_found, fault_read, moved}
 use Rattle.schema_laws.proofs.Packed.{packed_found, packed_bad}
+use Rattle.schema_laws.proofs.StepAgrees.{ok_from, row_hits, row_misses, row_steady, StepAgrees}
+use Rattle.schema.specs.AnyValue.{AnyValue}
+use Rattle.schema.specs.AnyMerge.{any_levels, item_at, merge_any}
+use Rattle.schema.specs.AnyFaults.{AnyFault}
+use Rattle.schema_laws.proofs.AnyAgrees.{add_hits, add_misses, add_steady, any_agrees, value_hits, value_misses, value_steady}
 
 -- a shape whose step fails exactly with its faults, at any place alike
-pub record Agrees (s : Shape) : Type 0 where
-  pub hits : Hits (take_field s) (FieldFault s)
-  pub misses : Misses (take_field s) (FieldFault s)
-  pub steady : Steady (take_field s)
+abbrev pub Agrees : Shape → Type 0
+Agrees s = StepAgrees (take_field s) (FieldFault s)
 
 -- ---- packed payloads
 
@@ -104,7 +109,7 @@ one_hits (Index T entry) a at end p v g e = absurd cc
 one_hits Fixed a at end p v g e = absurd cc
 one_hits Bytes a at end p v g e = absurd cc
 one_hits Text a at end (Long b) v g e = checked_err (is_utf8 b) b (fault_at at NotUtf8) g e
-one_hits (Any depth) a at end p v g e = refused_err (fits_one (Any depth) p) v (fault_at at NotBuilt) g e
+one_hits (Any depth) a at end p v g e = value_hits (merge_any (any_levels depth)) (AnyFault (any_levels depth)) (any_agrees (any_levels depth)) at end p v g e
 one_hits (Unbuilt k) a at end p v g e = refused_err (fits_one k p) v (fault_at at NotBuilt) g e
 one_hits k a at end (Long b) v g e = message_hits k a (end - length b) b v g e
 one_hits k a at end p v g e = absurd cc
@@ -116,7 +121,7 @@ one_misses (Index T entry) a at end p v g e = absurd e
 one_misses Fixed a at end p v g e = absurd e
 one_misses Bytes a at end p v g e = absurd e
 one_misses Text a at end (Long b) v g e = checked_fails (is_utf8 b) b (fault_at at NotUtf8) g e
-one_misses (Any depth) a at end p v g e = refused_fails (fits_one (Any depth) p) v (fault_at at NotBuilt) g e
+one_misses (Any depth) a at end p v g e = value_misses (merge_any (any_levels depth)) (AnyFault (any_levels depth)) (any_agrees (any_levels depth)) at end p v g e
 one_misses (Unbuilt k) a at end p v g e = refused_fails (fits_one k p) v (fault_at at NotBuilt) g e
 one_misses k a at end (Long b) v g e = message_misses k a (end - length b) b v g e
 one_misses k a at end p v g e = absurd e
@@ -128,7 +133,7 @@ one_steady (Index T entry) a at end p v w e c d = e
 one_steady Fixed a at end p v w e c d = e
 one_steady Bytes a at end p v w e c d = e
 one_steady Text a at end (Long b) v w e c d = checked_steady (is_utf8 b) b (fault_at at NotUtf8) (fault_at c NotUtf8) w e
-one_steady (Any depth) a at end p v w e c d = refused_steady (fits_one (Any depth) p) v (fault_at at NotBuilt) (fault_at c NotBuilt) w e
+one_steady (Any depth) a at end p v w e c d = value_steady (merge_any (any_levels depth)) (AnyFault (any_levels depth)) (any_agrees (any_levels depth)) at end p v w e c d
 one_steady (Unbuilt k) a at end p v w e c d = refused_steady (fits_one k p) v (fault_at at NotBuilt) (fault_at c NotBuilt) w e
 one_steady k a at end (Long b) v w e c d = message_steady k a (end - length b) (d - length b) b v w e
 one_steady k a at end p v w e c d = e
@@ -142,7 +147,7 @@ many_hits (Index T entry) a at end (Long b) v g e = packed_hits I32 at b v g e
 many_hits Fixed a at end (Long b) v g e = eights_hits at b v g e
 many_hits Bytes a at end p v g e = absurd cc
 many_hits Text a at end (Long b) v g e = checked_err (is_utf8 b) b (fault_at at NotUtf8) g (map_err (text_of at b) (λ (t : List ℕ). v ++ t ∷ []) g e)
-many_hits (Any depth) a at end p v g e = refused_err (fits_many (Any depth) p) v (fault_at at NotBuilt) g e
+many_hits (Any depth) a at end p v g e = add_hits (item_at (merge_any (any_levels depth))) (AnyFault (any_levels depth)) (any_agrees (any_levels depth) AnyValue.Empty) at end p v g e
 many_hits (Unbuilt k) a at end p v g e = refused_err (fits_many k p) v (fault_at at NotBuilt) g e
 many_hits k a at end (Long b) v g e = element_hits k a (end - length b) b v g e
 many_hits k a at end p v g e = absurd cc
@@ -154,7 +159,7 @@ many_misses (Index T entry) a at end (Long b) v g e = packed_misses I32 at b v g
 many_misses Fixed a at end (Long b) v g e = eights_misses at b v g e
 many_misses Bytes a at end p v g e = absurd e
 many_misses Text a at end (Long b) v g e = map_at (text_of at b) (λ (t : List ℕ). v ++ t ∷ []) g (checked_fails (is_utf8 b) b (fault_at at NotUtf8) g e)
-many_misses (Any depth) a at end p v g e = refused_fails (fits_many (Any depth) p) v (fault_at at NotBuilt) g e
+many_misses (Any depth) a at end p v g e = add_misses (item_at (merge_any (any_levels depth))) (AnyFault (any_levels depth)) (any_agrees (any_levels depth) AnyValue.Empty) at end p v g e
 many_misses (Unbuilt k) a at end p v g e = refused_fails (fits_many k p) v (fault_at at NotBuilt) g e
 many_misses k a at end (Long b) v g e = element_misses k a (end - length b) b v g e
 many_misses k a at end p v g e = absurd e
@@ -166,36 +171,12 @@ many_steady (Index T entry) a at end p v w e c d = numbers_steady I32 at c p v w
 many_steady Fixed a at end (Long b) v w e c d = checked_steady (length b % 8 == 0) (v ++ packed_fixed b) (fault_at at PackedLength) (fault_at c PackedLength) w e
 many_steady Bytes a at end p v w e c d = e
 many_steady Text a at end (Long b) v w e c d = map_both (text_of at b) (text_of c b) (λ (t : List ℕ). v ++ t ∷ []) w (λ x q. checked_steady (is_utf8 b) b (fault_at at NotUtf8) (fault_at c NotUtf8) x q) e
-many_steady (Any depth) a at end p v w e c d = refused_steady (fits_many (Any depth) p) v (fault_at at NotBuilt) (fault_at c NotBuilt) w e
+many_steady (Any depth) a at end p v w e c d = add_steady (item_at (merge_any (any_levels depth))) (AnyFault (any_levels depth)) (any_agrees (any_levels depth) AnyValue.Empty) at end p v w e c d
 many_steady (Unbuilt k) a at end p v w e c d = refused_steady (fits_many k p) v (fault_at at NotBuilt) (fault_at c NotBuilt) w e
 many_steady k a at end (Long b) v w e c d = element_steady k a (end - length b) (d - length b) b v w e
 many_steady k a at end p v w e c d = e
 
 -- ---- rows
-
--- a row that is tried by the test t, and the rows behind it
-abbrev tried : {A B C : Type 0} → Bool → Result A Fault → Result B Fault → (A → C) → (B → C) → Result C Fault
-tried t here there h i = cond t (here >>= λ x. Ok (h x)) (there >>= λ x. Ok (i x))
-
--- a row that fails has the fault, by whether it was tried
-row_hits : {A B C : Type 0} (t : Bool) (P Q R : Type 0) (here : Result A Fault) (there : Result B Fault) (h : A → C) (i : B → C) (g : Fault)
-    → (t ≡ true → P) → (t ≡ false → P → ⊥) → (here ≡ Err g → Q) → (there ≡ Err g → R) → tried t here there h i ≡ Err g → (P × Q) ⊎ ((P → ⊥) × R)
-row_hits true P Q R here there h i g same never a b e = inl (same refl, a (map_err here h g e))
-row_hits false P Q R here there h i g same never a b e = inr (never refl, b (map_err there i g e))
-
--- and a row that has the fault fails
-row_misses : {A B C : Type 0} (t : Bool) (P Q R : Type 0) (here : Result A Fault) (there : Result B Fault) (h : A → C) (i : B → C) (g : Fault)
-    → (t ≡ true → P) → (t ≡ false → P → ⊥) → (Q → here ≡ Err g) → (R → there ≡ Err g) → (P × Q) ⊎ ((P → ⊥) × R) → tried t here there h i ≡ Err g
-row_misses true P Q R here there h i g same never a b (inl w) = map_at here h g (a w.1)
-row_misses true P Q R here there h i g same never a b (inr w) = absurd (w.0 (same refl))
-row_misses false P Q R here there h i g same never a b (inl w) = absurd (never refl w.0)
-row_misses false P Q R here there h i g same never a b (inr w) = map_at there i g (b w.1)
-
--- and a row that is taken doesn't depend on the place
-row_steady : {A B C : Type 0} (t : Bool) (here here2 : Result A Fault) (there there2 : Result B Fault) (h : A → C) (i : B → C) (w : C)
-    → ((x : A) → here ≡ Ok x → here2 ≡ Ok x) → ((x : B) → there ≡ Ok x → there2 ≡ Ok x) → tried t here there h i ≡ Ok w → tried t here2 there2 h i ≡ Ok w
-row_steady true here here2 there there2 h i w a b e = map_both here here2 h w a e
-row_steady false here here2 there there2 h i w a b e = map_both there there2 i w b e
 
 -- each shape agrees
 pub agrees : (s : Shape) → Agrees s
@@ -242,11 +223,6 @@ merge_fault s u base bytes g h = message_misses s (agrees s) base bytes u g h
 -- where a value is read, there is no fault
 pub merge_ok : (s : Shape) (u v : Value s) (base : ℕ) (bytes : List ℕ) → merge s u base bytes ≡ Ok v → (g : Fault) → HasFault s base bytes g → ⊥
 merge_ok s u v base bytes e g h = let f = merge_fault s u base bytes g h in absurd (cc (e, f))
-
--- what never fails is right
-ok_from : {A : Type 0} (r : Result A Fault) → ((g : Fault) → r ≡ Err g → ⊥) → (v : A) × (r ≡ Ok v)
-ok_from (Ok v) h = (v, refl)
-ok_from (Err g) h = absurd (h g refl)
 
 -- and where there is none, a value is read
 pub merge_sound : (s : Shape) (u : Value s) (base : ℕ) (bytes : List ℕ) → ((g : Fault) → HasFault s base bytes g → ⊥) → (v : Value s) × (merge s u base bytes ≡ Ok v)

@@ -1,58 +1,33 @@
 -- What is spelled is read again.
-use Rattle.std.proofs.Common.{◌≡◌, ℕ, ◌+◌, ◌*◌, ◌-◌, ◌%◌, ◌^◌, ◌<◌, true, false, cond, List, [], ◌∷◌, ◌++◌, length, map, Result, Ok, Err, refl, sym, ap, ◌∙◌, arith, append_assoc, length-append, inl, inr}
+use Rattle.std.proofs.Common.{◌≡◌, ℕ, ◌+◌, ◌*◌, ◌-◌, ◌%◌, ◌^◌, ◌<◌, true, false, cond, List, [], ◌∷◌, ◌++◌, length, map, Result, Ok, Err, refl, sym, ap, ◌∙◌, arith, length-append, inl, inr}
 use Rattle.std.specs.Prelude.{◌==◌}
 use Rattle.std.specs.Int.{w64, to_le_bytes}
 use Rattle.std.specs.List.{flat_map}
-use Rattle.std.specs.Str.{is_utf8}
 use Rattle.std.proofs.lemmas.Bool.{cases_eq, eq-eqb, ne_eqb, cond-true}
-use Rattle.std.proofs.lemmas.List.{append-nil, nil_from_length}
+use Rattle.std.proofs.lemmas.List.{append-nil}
 use Rattle.std.proofs.lemmas.List.Folds.{flat_map-map}
 use Rattle.std.proofs.lemmas.Nat.{from_le_bytes-to_le_bytes_8}
 use Rattle.schema.specs.Field.{Payload, Varint, Eight, Long, Field}
-use Rattle.schema.specs.Fault.{Reason, NotUtf8, PackedLength, Fault, fault_at}
+use Rattle.schema.specs.Fault.{Reason, PackedLength, Fault, fault_at}
 use Rattle.schema.specs.Steps.{◌>>=◌, field_at, trace}
 use Rattle.schema.specs.Shape.{Shape, Number, Fixed, Bytes, Text, Any, Index, Unbuilt, End, One, Many, Format, U32, U64, I32, I64, Flag, NumberValue, Value, IsMessage, empty, number_from, number_zero}
-use Rattle.schema.specs.Merge.{run, merge, take_one, take_many, more_packed, more_fixed, packed, packed_fixed, at_place, text_of, take_field}
-use Rattle.schema.specs.Spell.{varint, number_to, number_field, fixed_field, long_field, bytes_field, spell, spell_one, spell_many, items_text, numbers_text, fixed_text}
-use Rattle.schema.specs.Fits.{Each, HasRow, Lawful, FitsNumber, FitsTogether, Fits}
+use Rattle.schema.specs.Run.{run}
+use Rattle.schema.specs.Merge.{merge, take_one, take_many, more_packed, more_fixed, packed, packed_fixed, at_place, take_field}
+use Rattle.schema.specs.Texts.{varint, number_to, number_field, fixed_field, long_field, bytes_field, items_text, numbers_text, fixed_text, FitsNumber}
+use Rattle.schema.specs.Spell.{spell, spell_one, spell_many}
+use Rattle.schema.specs.Each.{Each}
+use Rattle.schema.specs.Fits.{HasRow, Lawful, FitsTogether, Fits}
 use Rattle.schema_laws.proofs.Results.{ok_is, map_same, map_map}
-use Rattle.schema_laws.proofs.Onto.{varint_some, long_some}
-use Rattle.schema_laws.proofs.Traces.{run_field, run_end}
+use Rattle.schema_laws.proofs.Onto.{varint_some}
+use Rattle.schema_laws.proofs.Traces.{run_end}
 use Rattle.schema_laws.proofs.Rows.{take_one_message, take_many_message, packed_by, packed_is, packed_nothing, fixed_nothing}
-use Rattle.schema_laws.proofs.Front.{varint_again, number_again, eight_again, long_again}
+use Rattle.schema_laws.proofs.Front.{varint_again, number_again, eight_again}
 use Rattle.schema_laws.proofs.Fixed.{eight_len, fixed_whole, fixed_again}
-
--- ---- a step over a text
-
--- a step over fields: where the tag begins, where the payload ends, and the field
-abbrev Step : Type 0 → Type 0
-Step S = ℕ → ℕ → Field → S → Result S Fault
-
--- the step takes the text from s to t, whatever follows it
-abbrev Passes : {S : Type 0} → Step S → S → S → ℕ → List ℕ → List ℕ → Type 0
-Passes step s t base x text = run step s (trace base (x ++ text)) ≡ run step t (trace (base + length x) text)
-
--- the step takes a text of one field
-one_field : {S : Type 0} (step : Step S) (s t : S) (base : ℕ) (x text : List ℕ) (f : Field)
-    → 0 < length x → field_at (x ++ text) ≡ Ok (f, text) → ((end : ℕ) → end ≡ base + length x → step base end f s ≡ Ok t) → Passes step s t base x text
-one_field {S = S} step s t base x text f some e h =
-    let l : base + (length (x ++ text) - length text) ≡ base + length x = omega (arith, length-append x text) in
-    run_field step s base (x ++ text) f text (omega (arith, length-append x text)) e
-    ∙ ap (λ (m : ℕ). step base m f s >>= λ t. run step t (trace m text)) l
-    ∙ ap (λ (r : Result S Fault). r >>= λ t. run step t (trace (base + length x) text)) (h (base + length x) refl)
-
--- the step takes an empty text
-no_field : {S : Type 0} (step : Step S) (s t : S) (base : ℕ) (x text : List ℕ) → x ≡ [] → s ≡ t → Passes step s t base x text
-no_field {S = S} step s t base x text e h =
-    let z : base ≡ base + length x = omega (arith, ap length e) in
-    ap (λ (y : List ℕ). run step s (trace base (y ++ text))) e ∙ ap (λ (u : S). run step u (trace base text)) h ∙ ap (λ (m : ℕ). run step t (trace m text)) z
-
--- two texts, one after the other
-both_pass : {S : Type 0} (step : Step S) (s t u : S) (base : ℕ) (x y text : List ℕ)
-    → Passes step s t base x (y ++ text) → Passes step t u (base + length x) y text → Passes step s u base (x ++ y) text
-both_pass step s t u base x y text a b =
-    ap (λ (z : List ℕ). run step s (trace base z)) (append_assoc x y text) ∙ a ∙ b
-    ∙ ap (λ (p : ℕ). run step u (trace p text)) (omega (arith, length-append x y))
+use Rattle.schema_laws.proofs.Passing.{Step, Passes, one_field, no_field, both_pass, bytes_row, items_row, text_again}
+use Rattle.schema.specs.AnyValue.{AnyValue}
+use Rattle.schema.specs.AnyMerge.{any_levels, merge_any}
+use Rattle.schema.specs.AnySpell.{AnyInRange, FitsAny, any_text}
+use Rattle.schema_laws.proofs.AnyBack.{again_in, any_again, any_row}
 
 -- ---- singular rows
 
@@ -80,7 +55,7 @@ unfolding fixed_field
 fixed_none n v e = let b : (v == 0) ≡ true = eq-eqb _ _ e in rw b refl
 
 -- the step takes a text of eight bytes behind a tag
-eight_pass : {S : Type 0} (step : Step S) (s t : S) (base n : ℕ) (b text x : List ℕ) → 0 < n → n < 2 ^ 29 → length b ≡ 8 → x ≡ varint (n * 8 + 1) ++ b
+pub eight_pass : {S : Type 0} (step : Step S) (s t : S) (base n : ℕ) (b text x : List ℕ) → 0 < n → n < 2 ^ 29 → length b ≡ 8 → x ≡ varint (n * 8 + 1) ++ b
     → ((end : ℕ) → step base end (record { number = n; payload = Eight b }) s ≡ Ok t) → Passes step s t base x text
 eight_pass step s t base n b text x some few len e h =
     let l : 0 < length x = omega (arith, ap length e, length-append (varint (n * 8 + 1)) b, varint_some (n * 8 + 1)) in
@@ -94,19 +69,6 @@ fixed_row step s t base n v text some few zero_case h = elim (cases_eq v 0) [
   | inr ne ↦ eight_pass step s t base n (to_le_bytes w64 v) text (fixed_field n v) some few (eight_len v) (fixed_is n v ne) h
 ]
 
--- bytes behind a tag and a length, which are left out where they are empty
-bytes_row : {S : Type 0} (step : Step S) (s t : S) (base n : ℕ) (b text : List ℕ) → 0 < n → n < 2 ^ 29 → length b < 2 ^ 64 → (b ≡ [] → s ≡ t)
-    → ((end : ℕ) → step base end (record { number = n; payload = Long b }) s ≡ Ok t) → Passes step s t base (bytes_field n b) text
-unfolding bytes_field
-bytes_row step s t base n b text some few fits zero_case h = elim (cases_eq (length b) 0) [
-  | inl e ↦ let q : (length b == 0) ≡ true = eq-eqb _ _ e in no_field step s t base (bytes_field n b) text (rw q refl) (zero_case (nil_from_length b e))
-  | inr ne ↦
-      let q : (length b == 0) ≡ false = ne_eqb _ _ ne in
-      let x : bytes_field n b ≡ long_field n b = rw q refl in
-      let l : 0 < length (bytes_field n b) = omega (arith, ap length x, long_some n b) in
-      one_field step s t base (bytes_field n b) text (record { number = n; payload = Long b }) l (ap (λ (y : List ℕ). field_at (y ++ text)) x ∙ long_again n b text some few fits) (λ end _. h end)
-]
-
 -- the number of 0 is the default
 from_zero : (w : Format) → number_from w 0 ≡ number_zero w
 from_zero U32 = refl
@@ -114,10 +76,6 @@ from_zero U64 = refl
 from_zero I32 = refl
 from_zero I64 = refl
 from_zero Flag = refl
-
--- a text that is UTF-8 is read
-text_again : (at : ℕ) (b : List ℕ) → is_utf8 b ≡ true → text_of at b ≡ Ok b
-text_again at b e = cond-true (is_utf8 b) (Ok b) (Err (fault_at at NotUtf8)) e
 
 -- a singular number of a format
 scalar_row : (w : Format) {S : Type 0} (step : Step S) (inject : NumberValue w → S) (base n : ℕ) (x : NumberValue w) (text : List ℕ) → 0 < n → n < 2 ^ 29 → FitsNumber w x
@@ -159,7 +117,8 @@ row_one Bytes step inject base n x text some few fits small again takes =
 row_one Text step inject base n x text some few fits small again takes =
     bytes_row step (inject []) (inject x) base n x text some few fits.1 (λ e. ap inject (sym e))
     (λ end. takes end (Long x) ∙ ap (λ (r : Result (List ℕ) Fault). r >>= λ y. Ok (inject y)) (text_again base x fits.0))
-row_one (Any depth) step inject base n x text some few fits small again takes = no_field step (inject tt) (inject x) base [] text refl refl
+row_one (Any depth) step inject base n x text some few fits small again takes =
+    any_row (merge_any (any_levels depth)) (AnyInRange (any_levels depth)) (again_in (any_levels depth)) step inject base n x text some few fits.0 fits.1 (λ end. takes end (Long (any_text x)))
 row_one (Unbuilt k) step inject base n x text some few fits small again takes = no_field step (inject tt) (inject x) base [] text refl refl
 row_one k step inject base n x text some few fits small again takes = message_row k tt step inject base n x text some few fits small (again tt) takes
 
@@ -201,22 +160,6 @@ eights_row step inject base n vs text some few again small takes =
     (λ e. ap inject (sym (fixed_nothing [] refl) ∙ ap packed_fixed (sym e) ∙ again))
     (λ end. takes end ∙ ap (λ (r : Result (List ℕ) Fault). r >>= λ y. Ok (inject y)) (fixed_packed base vs again))
 
--- elements that are each behind a tag and a length
-items_row : {A S : Type 0} (step : Step S) (inject : List A → S) (text_of : A → List ℕ) (n : ℕ) (P : A → Type 0) → 0 < n → n < 2 ^ 29
-    → ((x : A) → P x → length (text_of x) < 2 ^ 64)
-    → ((x : A) → P x → (at end : ℕ) (vs : List A) → step at end (record { number = n; payload = Long (text_of x) }) (inject vs) ≡ Ok (inject (vs ++ x ∷ [])))
-    → (pre xs : List A) → Each P xs → (base : ℕ) (text : List ℕ) → Passes step (inject pre) (inject (pre ++ xs)) base (flat_map (λ x. long_field n (text_of x)) xs) text
-items_row step inject text_of n P some few small takes pre [] fits base text = no_field step (inject pre) (inject (pre ++ [])) base [] text refl (ap inject (sym (append-nil pre)))
-items_row {A = A} step inject text_of n P some few small takes pre (x ∷ xs) fits base text =
-    let first = long_field n (text_of x) in
-    let second = flat_map (λ (x : A). long_field n (text_of x)) xs in
-    ap (λ (z : List ℕ). run step (inject pre) (trace base z)) (append_assoc first second text)
-    ∙ one_field step (inject pre) (inject (pre ++ x ∷ [])) base first (second ++ text) (record { number = n; payload = Long (text_of x) }) (long_some n (text_of x)) (long_again n (text_of x) (second ++ text) some few (small x fits.0))
-    (λ end _. takes x fits.0 base end pre)
-    ∙ items_row step inject text_of n P some few small takes (pre ++ x ∷ []) xs fits.1 (base + length first) text
-    ∙ ap (λ (ys : List A). run step (inject ys) (trace (base + length first + length second) text)) (append_assoc pre (x ∷ []) xs)
-    ∙ ap (λ (p : ℕ). run step (inject (pre ++ x ∷ xs)) (trace p text)) (omega (arith, length-append first second))
-
 -- what is asked of each element of a repeated row
 abbrev FitsItem : (k : Shape) → Value k → Type 0
 FitsItem k y = Fits k y × (length (spell k y) < 2 ^ 64)
@@ -237,6 +180,18 @@ messages_row k m step inject base n xs text some few fits again takes =
     [] xs fits base text
     ∙ ap (λ (y : List ℕ). run step (inject xs) (trace (base + length y) text)) (sym e)
 
+-- a repeated row of AnyValues
+values_row : (depth : ℕ) {S : Type 0} (step : Step S) (inject : List AnyValue → S) (base n : ℕ) (xs : List AnyValue) (text : List ℕ) → 0 < n → n < 2 ^ 29
+    → Each (FitsAny (any_levels depth)) xs → TakesMany (Any depth) step inject n
+    → Passes step (inject []) (inject xs) base (items_text n (map any_text xs)) text
+values_row depth step inject base n xs text some few fits takes =
+    let e : items_text n (map any_text xs) ≡ flat_map (λ x. long_field n (any_text x)) xs = flat_map-map (long_field n) any_text xs in
+    ap (λ (y : List ℕ). run step (inject []) (trace base (y ++ text))) e
+    ∙ items_row step inject any_text n (FitsAny (any_levels depth)) some few (λ x p. p.1)
+    (λ x p at end vs. takes at end (Long (any_text x)) vs ∙ ap (λ (r : Result AnyValue Fault). (r >>= λ v. Ok (vs ++ v ∷ [])) >>= λ y. Ok (inject y)) (any_again (any_levels depth) x p at end))
+    [] xs fits base text
+    ∙ ap (λ (y : List ℕ). run step (inject xs) (trace (base + length y) text)) (sym e)
+
 -- a repeated row of any shape
 row_many : (k : Shape) {S : Type 0} (step : Step S) (inject : List (Value k) → S) (base n : ℕ) (xs : List (Value k)) (text : List ℕ) → 0 < n → n < 2 ^ 29
     → Each (FitsItem k) xs → FitsTogether k xs → (IsMessage k → ReadAgain k) → TakesMany k step inject n
@@ -252,7 +207,7 @@ row_many Bytes step inject base n xs text some few fits small again takes =
 row_many Text step inject base n xs text some few fits small again takes =
     items_row step inject (λ b. b) n (FitsItem Text) some few (λ x p. p.0.1)
     (λ x p at end vs. takes at end (Long x) vs ∙ ap (λ (r : Result (List ℕ) Fault). (r >>= λ t. Ok (vs ++ t ∷ [])) >>= λ y. Ok (inject y)) (text_again at x p.0.0)) [] xs fits base text
-row_many (Any depth) step inject base n xs text some few fits small again takes = no_field step (inject []) (inject xs) base [] text refl (ap inject (sym small))
+row_many (Any depth) step inject base n xs text some few fits small again takes = values_row depth step inject base n xs text some few small takes
 row_many (Unbuilt k) step inject base n xs text some few fits small again takes = no_field step (inject []) (inject xs) base [] text refl (ap inject (sym small))
 row_many k step inject base n xs text some few fits small again takes = messages_row k tt step inject base n xs text some few fits (again tt) takes
 

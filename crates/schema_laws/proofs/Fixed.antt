@@ -4,8 +4,8 @@ use Rattle.std.specs.Int.{w64, from_le_bytes, to_le_bytes}
 use Rattle.std.proofs.lemmas.List.{take_at, drop_at}
 use Rattle.std.proofs.lemmas.Nat.{from_le_bytes-to_le_bytes_8}
 use Rattle.schema.specs.Merge.{fixed_upto, packed_fixed}
-use Rattle.schema.specs.Spell.{fixed_text}
-use Rattle.schema.specs.Fits.{Each}
+use Rattle.schema.specs.Texts.{fixed_text}
+use Rattle.schema.specs.Each.{Each}
 use Rattle.schema_laws.proofs.Rows.{packed_fixed_is, fixed_nothing}
 
 -- a value has eight bytes

@@ -5,7 +5,7 @@ use Rattle.std.proofs.lemmas.Bool.{cases_lt, lt-ltb, le-ltb, ne_eqb}
 use Rattle.std.proofs.lemmas.List.{take_at, drop_at}
 use Rattle.schema.specs.Field.{Varint, Eight, Long, greatest_number}
 use Rattle.schema.specs.Steps.{◌>>=◌, varint_at, bytes_at, payload_at, field_at}
-use Rattle.schema.specs.Spell.{varint, long_field}
+use Rattle.schema.specs.Texts.{varint, long_field}
 use Rattle.schema_laws.proofs.Onto.{varint_small, varint_large}
 
 -- a varint within its limit is read

@@ -1,6 +1,6 @@
 -- The same for repeated rows, and for whole messages.
-use Rattle.std.proofs.Common.{◌≡◌, ℕ, ◌+◌, ◌*◌, ◌-◌, ◌/◌, ◌%◌, ◌^◌, ◌<◌, ◌≤◌, Bool, true, false, cond, List, [], ◌∷◌, ◌++◌, length, map, Result, Ok, Err, refl, sym, ap, subst, ◌∙◌, arith, length-append}
-use Rattle.std.specs.Prelude.{◌==◌}
+use Rattle.std.proofs.Common.{◌≡◌, ℕ, ◌+◌, ◌*◌, ◌-◌, ◌/◌, ◌%◌, ◌^◌, ◌<◌, ◌≤◌, List, [], ◌∷◌, ◌++◌, length, map, Result, Ok, Err, refl, sym, ap, subst, ◌∙◌, arith, length-append, inl, inr}
+use Rattle.std.specs.Prelude.{◌==◌, ◌⊎◌}
 use Rattle.std.specs.Int.{w64, to_le_bytes, from_le_bytes}
 use Rattle.std.specs.Str.{is_utf8}
 use Rattle.std.proofs.lemmas.Bool.{eqb-true}
@@ -8,12 +8,14 @@ use Rattle.std.proofs.lemmas.Str.{IsUtf8-nil, is_utf8-from_IsUtf8}
 use Rattle.std.proofs.lemmas.Grind.{flat_map-append}
 use Rattle.std.proofs.lemmas.List.{map-append}
 use Rattle.schema.specs.Field.{Eight, Long, Payload, Varint, greatest_number}
-use Rattle.schema.specs.Fault.{Fault, NotBuilt, NotUtf8, PackedLength, Reason, fault_at}
+use Rattle.schema.specs.Fault.{NotBuilt, NotUtf8, PackedLength, Reason, fault_at}
 use Rattle.schema.specs.Steps.{◌>>=◌}
 use Rattle.schema.specs.Shape.{Any, Bytes, Fixed, Flag, Format, I32, I64, Index, IsMessage, Many, Number, NumberValue, One, Shape, Text, U32, U64, Unbuilt, Value, empty, fits_many, number_from, number_zero}
-use Rattle.schema.specs.Merge.{at_place, merge, packed, packed_fixed, more_bytes, more_fixed, take_many, more_numbers, take_one, more_texts, take_field, text_of}
-use Rattle.schema.specs.Spell.{bytes_field, fixed_field, fixed_text, items_text, long_field, number_field, number_to, numbers_text, spell, spell_many, spell_one, varint}
-use Rattle.schema.specs.Fits.{Each, FitsNumber}
+use Rattle.schema.specs.Merge.{at_place, merge, packed, packed_fixed, more_bytes, more_fixed, take_many, more_numbers, take_one, more_texts, take_field}
+use Rattle.schema.specs.Run.{text_of}
+use Rattle.schema.specs.Texts.{bytes_field, fixed_field, fixed_text, items_text, long_field, number_field, number_to, numbers_text, varint, FitsNumber}
+use Rattle.schema.specs.Spell.{spell, spell_many, spell_one}
+use Rattle.schema.specs.Each.{Each}
 use Rattle.schema_laws.proofs.Results.{ok_is, bind_ok, checked_ok, refused_ok}
 use Rattle.schema_laws.proofs.Onto.{varint_at_most}
 use Rattle.schema_laws.proofs.Rows.{take_many_message, take_many_short}
@@ -21,7 +23,14 @@ use Rattle.schema_laws.proofs.Fixed.{fixed_len}
 use Rattle.schema_laws.proofs.Packed.{packed_right}
 use Rattle.schema_laws.proofs.Lists.{each_append}
 use Rattle.schema_laws.proofs.Ranges.{number_fits, numbers_fit, fixed_below, eights_fit, PayloadInRange, field_cost}
-use Rattle.schema_laws.proofs.Growth.{long_field_len, bytes_field_len, bytes_field_le, NoneIn, InRange, Grows, stays, becomes, size, Keeps, message_keeps, one_keeps}
+use Rattle.schema_laws.proofs.Lengths.{bytes_field_len, bytes_field_le, each_as}
+use Rattle.schema_laws.proofs.Growth.{AlsoIn, InRange, size, Keeps, message_keeps, one_keeps}
+use Rattle.schema_laws.proofs.Growing.{Grows, stays, becomes, item_grows, row_keeps}
+use Rattle.std.proofs.lemmas.List.Folds.{flat_map-map}
+use Rattle.schema.specs.AnyValue.{AnyValue}
+use Rattle.schema.specs.AnyMerge.{add_element, any_levels, item_at, merge_any}
+use Rattle.schema.specs.AnySpell.{AnyInRange, any_text}
+use Rattle.schema_laws.proofs.AnyGrowth.{add_keeps, any_keeps, item_keeps, numbered_size}
 
 -- the bytes of a packed field, to which others come
 packed_grow : (n : ℕ) → n ≤ greatest_number → (a b c : List ℕ) (cost : ℕ) → c ≡ a ++ b → 20 + length b ≤ 16 * cost → length (bytes_field n a) + 16 * cost < 2 ^ 64
@@ -30,13 +39,6 @@ packed_grow n le a b c cost e short room =
     let len : length c ≡ length a + length b = ap length e ∙ length-append a b in
     let g = bytes_field_le n a in
     let l = bytes_field_len n c le (omega arith) in omega arith
-
--- one more element behind a tag and a length
-item_grows : (n : ℕ) → n ≤ greatest_number → (a b c : List ℕ) (cost : ℕ) → c ≡ a ++ (long_field n b ++ []) → 20 + length b ≤ 16 * cost → 16 * cost < 2 ^ 64
-    → length c ≤ length a + 16 * cost
-item_grows n le a b c cost e short room =
-    let l = long_field_len n b le (omega arith) in
-    omega (arith, ap length e, length-append a (long_field n b ++ []), length-append (long_field n b) [])
 
 -- ---- numbers
 
@@ -95,7 +97,7 @@ fixed_grow n le us ns vs cost e i j short room =
 -- a repeated row of eight-byte values
 fixed_keep : (n : ℕ) → n ≤ greatest_number → (at : ℕ) (p : Payload) (us vs : List ℕ) → PayloadInRange p → Fixeds us
     → length (bytes_field n (fixed_text us)) + 16 * field_cost p < 2 ^ 64 → more_fixed at p us ≡ Ok vs → Grows Fixeds (λ xs. length (bytes_field n (fixed_text xs))) us (field_cost p) vs
-fixed_keep n le at (Eight b) us vs r i room e = fixed_grow n le us (from_le_bytes w64 b ∷ []) vs 2 (ok_is (us ++ from_le_bytes w64 b ∷ []) vs e) i (fixed_below b r, tt) (omega arith) room
+fixed_keep n le at (Eight b) us vs r i room e = fixed_grow n le us (from_le_bytes w64 b ∷ []) vs 2 (ok_is (us ++ from_le_bytes w64 b ∷ []) vs e) i (fixed_below b r.0, tt) (omega arith) room
 fixed_keep n le at (Long b) us vs r i room e =
     let f = eights_fit (length b / 8) b r in
     let len : length (packed_fixed b) ≡ length b / 8 = f.1 in
@@ -145,12 +147,30 @@ many_message k m keep start nothing n le at end p us vs r i room e =
 
 -- what is asked of the elements of a repeated row
 abbrev pub ManyIn : (k : Shape) → List (Value k) → Type 0
-ManyIn k vs = Each (InRange k) vs × NoneIn k vs
+ManyIn k vs = Each (InRange k) vs × AlsoIn k vs
 
 -- nothing more is asked where a row is read
 also : {A : Type 0} (P : List A → Type 0) (length_of : List A → ℕ) (us : List A) (cost : ℕ) (vs : List A) → Grows P length_of us cost vs
     → (P vs × Unit {0}) × (length_of vs ≤ length_of us + 16 * cost)
 also P length_of us cost vs g = ((g.0, tt), g.1)
+
+-- AnyValues that are written may stand in a row
+each_written : (left : ℕ) (vs : List AnyValue) → Each (AnyInRange left) vs → Each (λ v. (v ≡ AnyValue.Empty) ⊎ AnyInRange left v) vs
+each_written left vs i = each_as (AnyInRange left) (λ v. (v ≡ AnyValue.Empty) ⊎ AnyInRange left v) (λ v j. inr j) vs i
+
+-- a repeated row of AnyValues
+values_keep : (depth n : ℕ) → n ≤ greatest_number → (at end : ℕ) (p : Payload) (us vs : List AnyValue) → PayloadInRange p → Each (AnyInRange (any_levels depth)) us
+    → length (items_text n (map any_text us)) + 16 * field_cost p < 2 ^ 64 → add_element (item_at (merge_any (any_levels depth))) at end p us ≡ Ok vs
+    → Grows (ManyIn (Any depth)) (λ xs. length (items_text n (map any_text xs))) us (field_cost p) vs
+values_keep depth n le at end p us vs r i room e =
+    let left = any_levels depth in
+    let size : (xs : List AnyValue) → length (items_text n (map any_text xs)) ≡ numbered_size n any_text xs = λ xs. ap length (flat_map-map (long_field n) any_text xs) in
+    let g = add_keeps (item_at (merge_any left)) (AnyInRange left) any_text (item_keeps (merge_any left) (AnyInRange left) (any_keeps left)) n le at end p us vs r i
+    (subst (λ (m : ℕ). m + 16 * field_cost p < 2 ^ 64) (size us) room) e in (
+      (each_written left vs g.0, g.0),
+      subst (λ (m : ℕ). m ≤ length (items_text n (map any_text us)) + 16 * field_cost p) (sym (size vs))
+          (subst (λ (m : ℕ). numbered_size n any_text vs ≤ m + 16 * field_cost p) (sym (size us)) g.1),
+    )
 
 -- a repeated row of any shape
 many_keeps : (k : Shape) → Keeps k → InRange k (empty k) → spell k (empty k) ≡ [] → (n : ℕ) → n ≤ greatest_number → (at end : ℕ) (p : Payload) (us vs : List (Value k)) → PayloadInRange p → ManyIn k us
@@ -161,8 +181,7 @@ many_keeps (Index T entry) keep start nothing n le at end p us vs r i room e = a
 many_keeps Fixed keep start nothing n le at end p us vs r i room e = also Fixeds (λ xs. length (bytes_field n (fixed_text xs))) us (field_cost p) vs (fixed_keep n le at p us vs r i.0 room e)
 many_keeps Bytes keep start nothing n le at end p us vs r i room e = also (Each (InRange Bytes)) (λ xs. length (items_text n xs)) us (field_cost p) vs (bytes_keep n le p us vs i.0 room (ok_is (more_bytes p us) vs e))
 many_keeps Text keep start nothing n le at end p us vs r i room e = also (Each (InRange Text)) (λ xs. length (items_text n xs)) us (field_cost p) vs (texts_keep n le at p us vs i.0 room e)
-many_keeps (Any depth) keep start nothing n le at end p us vs r i room e =
-    stays (ManyIn (Any depth)) (λ xs. 0) us vs (field_cost p) (refused_ok (fits_many (Any depth) p) us vs (fault_at at NotBuilt) e) i
+many_keeps (Any depth) keep start nothing n le at end p us vs r i room e = values_keep depth n le at end p us vs r i.1 room e
 many_keeps (Unbuilt k) keep start nothing n le at end p us vs r i room e =
     stays (ManyIn (Unbuilt k)) (λ xs. 0) us vs (field_cost p) (refused_ok (fits_many k p) us vs (fault_at at NotBuilt) e) i
 many_keeps k keep start nothing n le at end p us vs r i room e =
@@ -196,7 +215,7 @@ one_nothing (Index T entry) n e = number_nothing I32 n
 one_nothing Fixed n e = fixed_nothing n
 one_nothing Bytes n e = bytes_nothing n [] refl
 one_nothing Text n e = bytes_nothing n [] refl
-one_nothing (Any depth) n e = refl
+one_nothing (Any depth) n e = bytes_nothing n [] refl
 one_nothing (Unbuilt k) n e = refl
 one_nothing k n e = bytes_nothing n (spell k (empty k)) e
 
@@ -222,8 +241,8 @@ zero_fits I64 = (omega arith, refl)
 zero_fits Flag = (omega arith, refl)
 
 -- no elements are in their range
-none_in : (k : Shape) → NoneIn k []
-none_in (Any depth) = refl
+none_in : (k : Shape) → AlsoIn k []
+none_in (Any depth) = tt
 none_in (Unbuilt k) = refl
 none_in k = tt
 
@@ -233,39 +252,12 @@ empty_in (Number w) = zero_fits w
 empty_in (Index T entry) = zero_fits I32
 empty_in Fixed = omega arith
 empty_in Text = is_utf8-from_IsUtf8 [] IsUtf8-nil
+empty_in (Any depth) = inl refl
 empty_in (One n k rest) = (empty_in k, empty_in rest)
 empty_in (Many n k rest) = (tt, none_in k, empty_in rest)
 empty_in s = tt
 
 -- ---- messages
-
--- where the row grows and the rows behind it stay, both grow so
-row_first : {A B : Type 0} (In : A → Type 0) (RestIn : B → Type 0) (text : A → List ℕ) (more : B → List ℕ) (u : A) (cost : ℕ) (v : A) (b : B) → Grows In (λ x. length (text x)) u cost v → RestIn b
-    → In v × RestIn b × (length (text v ++ more b) ≤ length (text u ++ more b) + 16 * cost)
-row_first In RestIn text more u cost v b g j = let h = g.1 in (g.0, j, omega (arith, length-append (text v) (more b), length-append (text u) (more b)))
-
--- and where the rows behind it grow
-row_rest : {A B : Type 0} (In : A → Type 0) (RestIn : B → Type 0) (text : A → List ℕ) (more : B → List ℕ) (a : A) (u : B) (cost : ℕ) (v : B) → Grows RestIn (λ x. length (more x)) u cost v → In a
-    → In a × RestIn v × (length (text a ++ more v) ≤ length (text a ++ more u) + 16 * cost)
-row_rest In RestIn text more a u cost v g j = let h = g.1 in (j, g.0, omega (arith, length-append (text a) (more v), length-append (text a) (more u)))
-
--- a row, and the rows behind it
-row_keeps : {A B : Type 0} (In : A → Type 0) (RestIn : B → Type 0) (text : A → List ℕ) (more : B → List ℕ) (t : Bool) (here : Result A Fault) (there : Result B Fault) (a : A) (b : B) (cost : ℕ) (v : A × B)
-    → In a → RestIn b → length (text a ++ more b) + 16 * cost < 2 ^ 64
-    → (t ≡ true → (x : A) → length (text a) + 16 * cost < 2 ^ 64 → here ≡ Ok x → Grows In (λ x. length (text x)) a cost x)
-    → ((y : B) → length (more b) + 16 * cost < 2 ^ 64 → there ≡ Ok y → Grows RestIn (λ x. length (more x)) b cost y)
-    → cond t (here >>= λ x. Ok (x, b)) (there >>= λ y. Ok (a, y)) ≡ Ok v
-    → In v.0 × RestIn v.1 × (length (text v.0 ++ more v.1) ≤ length (text a ++ more b) + 16 * cost)
-row_keeps {A} {B} In RestIn text more true here there a b cost v i j room h g e =
-    let x = bind_ok here (λ (x : A). let w : A × B = (x, b) in Ok w) v e in
-    let p : (let w : A × B = (x.0, b) in w ≡ v) = ok_is (x.0, b) v x.2 in
-    let r = row_first In RestIn text more a cost x.0 b (h refl x.0 (omega (arith, length-append (text a) (more b))) x.1) j in
-    subst (λ (w : A × B). In w.0 × RestIn w.1 × (length (text w.0 ++ more w.1) ≤ length (text a ++ more b) + 16 * cost)) p r
-row_keeps {A} {B} In RestIn text more false here there a b cost v i j room h g e =
-    let y = bind_ok there (λ (y : B). let w : A × B = (a, y) in Ok w) v e in
-    let p : (let w : A × B = (a, y.0) in w ≡ v) = ok_is (a, y.0) v y.2 in
-    let r = row_rest In RestIn text more a b cost y.0 (g y.0 (omega (arith, length-append (text a) (more b))) y.1) i in
-    subst (λ (w : A × B). In w.0 × RestIn w.1 × (length (text w.0 ++ more w.1) ≤ length (text a ++ more b) + 16 * cost)) p r
 
 -- each shape keeps its values in their range
 pub keeps : (s : Shape) → Keeps s

@@ -2,9 +2,9 @@
 use Rattle.std.proofs.Common.{◌≡◌, List, [], ◌∷◌, ◌++◌, refl, sym, ap, ◌∙◌, inl, inr}
 use Rattle.std.specs.Prelude.{Option, Some, None}
 use Rattle.schema.specs.Field.{Payload}
-use Rattle.schema.specs.Fits.{Each}
-use Rattle.schema.specs.Value.{IsLast}
-use Rattle.schema_laws.proofs.RowByRow.{or_else, last_said}
+use Rattle.schema.specs.Each.{Each}
+use Rattle.schema.specs.RowValue.{IsLast}
+use Rattle.schema_laws.proofs.Folds.{or_else, last_said}
 
 -- where none fits, it is what stood before
 last_none : {A : Type 0} (said : Payload → Option A) (ps : List Payload) (u : A) → Each (λ p. said p ≡ None) ps → last_said said ps u ≡ u

@@ -1,6 +1,6 @@
 -- Properties of each element of a list.
 use Rattle.std.proofs.Common.{ℕ, zero, suc, ◌<◌, List, [], ◌∷◌, ◌++◌, get_or, arith}
-use Rattle.schema.specs.Fits.{Each}
+use Rattle.schema.specs.Each.{Each}
 
 -- of each element of both lists
 pub each_append : {A : Type 0} (P : A → Type 0) (xs ys : List A) → Each P xs → Each P ys → Each P (xs ++ ys)

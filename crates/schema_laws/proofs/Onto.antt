@@ -4,7 +4,8 @@ use Rattle.std.specs.Prelude.{nat_lt}
 use Rattle.std.proofs.lemmas.Bool.{cases_lt, lt-ltb, le-ltb}
 use Rattle.std.proofs.lemmas.List.{append-nil}
 use Rattle.schema.specs.Shape.{Shape, One, Many, Value}
-use Rattle.schema.specs.Spell.{varint_upto, varint, spell, spell_one, spell_many, spell_onto, len_onto, long_field}
+use Rattle.schema.specs.Texts.{varint_upto, varint, long_field}
+use Rattle.schema.specs.Spell.{spell, spell_one, spell_many, spell_onto, len_onto}
 
 -- ---- varints
 

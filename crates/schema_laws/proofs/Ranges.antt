@@ -10,7 +10,8 @@ use Rattle.std.proofs.lemmas.List.{take-append-drop}
 use Rattle.schema.specs.Field.{Eight, Field, Four, Long, Payload, Varint, bytes_of, greatest_number, wire_type}
 use Rattle.schema.specs.Shape.{Flag, Format, I32, I64, U32, U64, number_from}
 use Rattle.schema.specs.Merge.{fixed_upto}
-use Rattle.schema.specs.Fits.{Each, FitsNumber}
+use Rattle.schema.specs.Each.{Each}
+use Rattle.schema.specs.Texts.{FitsNumber}
 use Rattle.schema.specs.Spelling.{SpellsField, SpellsNumber, SpellsNumbers, SpellsPayload, digits}
 use Rattle.schema_laws.proofs.Lists.{Octets, octet, each_left, each_right}
 use Rattle.schema_laws.proofs.Numbers.{horner}
@@ -96,10 +97,10 @@ eights_fit (suc k) b h =
 
 -- ---- fields
 
--- a payload of bytes, or a number of 64 bits
+-- a number of 64 bits, eight bytes, or bytes
 abbrev pub PayloadInRange : Payload → Type 0
 PayloadInRange (Varint n) = n < 2 ^ 64
-PayloadInRange (Eight b) = Octets b
+PayloadInRange (Eight b) = Octets b × (length b ≡ 8)
 PayloadInRange (Long b) = Octets b
 PayloadInRange (Four b) = Unit {0}
 
@@ -115,7 +116,7 @@ field_cost p = length (bytes_of p) + 2
 -- a payload that bytes spell is in its range
 payload_in_range : (bytes : List ℕ) (p : Payload) → SpellsPayload bytes p → Octets bytes → PayloadInRange p × (length (bytes_of p) + 1 ≤ length bytes)
 payload_in_range bytes (Varint n) s h = (number_below bytes n s, omega (arith, number_some bytes n s))
-payload_in_range bytes (Eight b) s h = (subst Octets s.0 h, omega (arith, ap length s.0, s.1))
+payload_in_range bytes (Eight b) s h = ((subst Octets s.0 h, s.1), omega (arith, ap length s.0, s.1))
 payload_in_range bytes (Long b) s h = (each_right (λ n. n < 256) s.0 b (subst Octets s.1 h), omega (arith, ap length s.1, length-append s.0 b, number_some s.0 (length b) s.2))
 payload_in_range bytes (Four b) s h = (tt, omega (arith, ap length s.0, s.1))
 

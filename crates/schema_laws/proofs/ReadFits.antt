@@ -1,17 +1,23 @@
 -- A value that is read can be written and read again, where the bytes are not too many.
-use Rattle.std.proofs.Common.{◌≡◌, ℕ, ◌+◌, ◌*◌, ◌^◌, ◌<◌, ◌≤◌, List, [], ◌∷◌, length, Ok, refl, sym, ap, subst, ◌∙◌, arith, length-append}
-use Rattle.std.specs.List.{flat_map}
+use Rattle.std.proofs.Common.{◌≡◌, ℕ, ◌+◌, ◌*◌, ◌^◌, ◌<◌, ◌≤◌, List, length, Ok, refl, sym, ap, subst, ◌∙◌, arith, length-append, inr}
 use Rattle.std.proofs.lemmas.List.Folds.{flat_map-map}
 use Rattle.schema.specs.Shape.{Any, Bytes, End, Fixed, I32, Index, IsMessage, Many, Number, One, Shape, Text, Unbuilt, Value, empty}
-use Rattle.schema.specs.Merge.{Part, merge, merge_all}
-use Rattle.schema.specs.Spell.{bytes_field, fixed_text, long_field, numbers_text, spell, spell_many, spell_one}
-use Rattle.schema.specs.Fits.{Each, Fits, FitsTogether, Lawful}
-use Rattle.schema.specs.Value.{joined}
+use Rattle.schema.specs.Parts.{Part, joined}
+use Rattle.schema.specs.Merge.{merge, merge_all, take_field}
+use Rattle.schema.specs.Texts.{bytes_field, fixed_text, long_field, numbers_text}
+use Rattle.schema.specs.Spell.{spell, spell_many, spell_one}
+use Rattle.schema.specs.Each.{Each}
+use Rattle.schema.specs.Fits.{Fits, FitsTogether, Lawful}
 use Rattle.schema_laws.proofs.Back.{reads_back}
-use Rattle.schema_laws.proofs.Results.{ok_is, bind_ok}
-use Rattle.schema_laws.proofs.Lists.{Octets, each_left, each_right}
-use Rattle.schema_laws.proofs.Growth.{long_field_le, bytes_field_le, InRange, size, message_keeps}
+use Rattle.schema_laws.proofs.Results.{ok_is}
+use Rattle.schema_laws.proofs.Lists.{Octets}
+use Rattle.schema_laws.proofs.Lengths.{bytes_field_le, each_as, each_short}
+use Rattle.schema_laws.proofs.Growth.{InRange, size, message_keeps}
 use Rattle.schema_laws.proofs.GrowthOfLists.{ManyIn, spells_nothing, empty_in, keeps}
+use Rattle.schema.specs.AnyMerge.{any_levels}
+use Rattle.schema.specs.AnySpell.{AnyInRange, FitsAny, any_text}
+use Rattle.schema_laws.proofs.Growing.{Grows}
+use Rattle.schema_laws.proofs.Parts.{parts_keep}
 
 -- what the law says of a message that is a part
 abbrev FitsSmall : Shape → Type 0
@@ -21,21 +27,6 @@ FitsSmall k = (x : Value k) → InRange k x → size k x < 2 ^ 64 → Fits k x
 abbrev FitsItem : (k : Shape) → Value k → Type 0
 FitsItem k y = Fits k y × (size k y < 2 ^ 64)
 
--- what follows from the one holds too
-each_as : {A : Type 0} (P Q : A → Type 0) → ((x : A) → P x → Q x) → (xs : List A) → Each P xs → Each Q xs
-each_as P Q h [] i = tt
-each_as P Q h (x ∷ xs) i = (h x i.0, each_as P Q h xs i.1)
-
--- each element of a short text is short
-each_short : {A : Type 0} (text : A → List ℕ) (n : ℕ) (P Q : A → Type 0) → ((x : A) → P x → length (text x) < 2 ^ 64 → Q x) → (xs : List A) → Each P xs
-    → length (flat_map (λ x. long_field n (text x)) xs) < 2 ^ 64 → Each Q xs
-each_short text n P Q h [] i short = tt
-each_short {A} text n P Q h (x ∷ xs) i short =
-    let l = long_field_le n (text x) in
-    let s : length (long_field n (text x)) + length (flat_map (λ (y : A). long_field n (text y)) xs) < 2 ^ 64 =
-    subst (λ (m : ℕ). m < 2 ^ 64) (length-append (long_field n (text x)) (flat_map (λ (y : A). long_field n (text y)) xs)) short in
-    (h x i.0 (omega arith), each_short text n P Q h xs i.1 (omega arith))
-
 -- a singular row
 one_fits : (k : Shape) (n : ℕ) (x : Value k) → InRange k x → length (spell_one k (spell k) n x) < 2 ^ 64 → (IsMessage k → FitsSmall k) → FitsItem k x
 one_fits (Number w) n x i short h = (i, omega arith)
@@ -43,7 +34,7 @@ one_fits (Index T entry) n x i short h = (i, omega arith)
 one_fits Fixed n x i short h = (i, omega arith)
 one_fits Bytes n x i short h = let l = bytes_field_le n x in (omega arith, omega arith)
 one_fits Text n x i short h = let l = bytes_field_le n x in ((i, omega arith), omega arith)
-one_fits (Any depth) n x i short h = (tt, omega arith)
+one_fits (Any depth) n x i short h = let l = bytes_field_le n (any_text x) in ((i, omega arith), omega arith)
 one_fits (Unbuilt k) n x i short h = (tt, omega arith)
 one_fits k n x i short h = let l = bytes_field_le n (spell k x) in let s : size k x < 2 ^ 64 = omega arith in (h tt x i s, s)
 
@@ -65,7 +56,11 @@ many_fits Fixed n xs i short h = (leaves Fixed xs i.0 (λ x. refl), fixed_short 
     fixed_short b s = let l = bytes_field_le n b in omega arith
 many_fits Bytes n xs i short h = (each_short (λ b. b) n (InRange Bytes) (FitsItem Bytes) (λ x r s. (s, omega arith)) xs i.0 short, tt)
 many_fits Text n xs i short h = (each_short (λ b. b) n (InRange Text) (FitsItem Text) (λ x r s. ((r, s), omega arith)) xs i.0 short, tt)
-many_fits (Any depth) n xs i short h = (leaves (Any depth) xs i.0 (λ x. refl), i.1)
+many_fits (Any depth) n xs i short h =
+    let left = any_levels depth in
+    let fits = each_short any_text n (AnyInRange left) (FitsAny left) (λ x r s. (r, s)) xs i.1
+    (subst (λ (t : List ℕ). length t < 2 ^ 64) (flat_map-map (long_field n) any_text xs) short) in
+    (each_as (FitsAny left) (FitsItem (Any depth)) (λ x f. ((inr f.0, f.1), omega arith)) xs fits, fits)
 many_fits (Unbuilt k) n xs i short h = (leaves (Unbuilt k) xs i.0 (λ x. refl), i.1)
 many_fits k n xs i short h = (
   each_short (spell k) n (InRange k) (FitsItem k) (λ x r s. (h tt x r s, s)) xs i.0
@@ -89,23 +84,15 @@ fits_from s m lawful v i short = absurd m
 -- ---- reading
 
 -- parts that are read keep the value in its range, and lengthen its spelling by sixteen bytes at most for each byte
-parts_keep : (s : Shape) (parts : List Part) (u v : Value s) → Octets (joined parts) → InRange s u → size s u + 16 * length (joined parts) < 2 ^ 64 → merge_all s u parts ≡ Ok v
-    → InRange s v × (size s v ≤ size s u + 16 * length (joined parts))
-parts_keep s [] u v o i room e = subst (λ (x : Value s). InRange s x × (size s x ≤ size s u + 16 * 0)) (ok_is u v e) (i, omega arith)
-parts_keep s (p ∷ ps) u v o i room e =
-    let r = bind_ok (merge s u p.base p.bytes) (λ w. merge_all s w ps) v e in
-    let l : length (joined (p ∷ ps)) ≡ length p.bytes + length (joined ps) = length-append p.bytes (joined ps) in
-    let g = message_keeps s (keeps s) p.base p.bytes u r.0 (each_left (λ n. n < 256) p.bytes (joined ps) o) i (omega arith) r.1 in
-    let here = g.1 in
-    let more = parts_keep s ps r.0 v (each_right (λ n. n < 256) p.bytes (joined ps) o) g.0 (omega arith) r.2 in
-    let there = more.1 in
-    (more.0, omega arith)
+all_keep : (s : Shape) (parts : List Part) (u v : Value s) → Octets (joined parts) → InRange s u → size s u + 16 * length (joined parts) < 2 ^ 64 → merge_all s u parts ≡ Ok v
+    → Grows (InRange s) (size s) u (length (joined parts)) v
+all_keep s parts u v o i room e = let k = keeps s in parts_keep (take_field s) (InRange s) (size s) k.keeps parts u v o i room e
 
 -- the value of parts fits
 pub parts_fit : (s : Shape) → IsMessage s → Lawful s → (parts : List Part) (v : Value s) → Octets (joined parts) → 16 * length (joined parts) < 2 ^ 64 → merge_all s (empty s) parts ≡ Ok v → Fits s v
 parts_fit s m lawful parts v o room e =
     let none : size s (empty s) ≡ 0 = ap length (spells_nothing s) in
-    let g = parts_keep s parts (empty s) v o (empty_in s) (omega arith) e in
+    let g = all_keep s parts (empty s) v o (empty_in s) (omega arith) e in
     let short = g.1 in
     fits_from s m lawful v g.0 (omega arith)
 
@@ -113,7 +100,7 @@ parts_fit s m lawful parts v o room e =
 pub parts_short : (s : Shape) → (parts : List Part) (v : Value s) → Octets (joined parts) → 16 * length (joined parts) < 2 ^ 64 → merge_all s (empty s) parts ≡ Ok v → size s v ≤ 16 * length (joined parts)
 parts_short s parts v o room e =
     let none : size s (empty s) ≡ 0 = ap length (spells_nothing s) in
-    let g = parts_keep s parts (empty s) v o (empty_in s) (omega arith) e in
+    let g = all_keep s parts (empty s) v o (empty_in s) (omega arith) e in
     let short = g.1 in
     omega arith
 

@@ -1,28 +1,18 @@
 -- A value is read exactly where the bytes spell fields without a fault, and it is their value row by row.
-use Rattle.std.proofs.Common.{◌≡◌, ℕ, List, [], ◌∷◌, ◌++◌, Result, Ok, refl, sym, ap, ◌∙◌}
+use Rattle.std.proofs.Common.{◌≡◌, ℕ, List, [], ◌++◌, Result, Ok, sym, ap, ◌∙◌}
 use Rattle.std.proofs.lemmas.List.{append-nil}
 use Rattle.schema.specs.Field.{Field}
 use Rattle.schema.specs.Fault.{Fault}
-use Rattle.schema.specs.Steps.{trace}
 use Rattle.schema.specs.Shape.{Shape, Value}
 use Rattle.schema.specs.Merge.{merge, take_field}
-use Rattle.schema.specs.Fits.{Each}
-use Rattle.schema.specs.Spelling.{Placed, Spells, fields_of, trace_of}
-use Rattle.schema.specs.FirstFault.{FieldFault, Sound}
-use Rattle.schema_laws.proofs.Traces.{fields}
-use Rattle.schema_laws.proofs.Spelled.{read_spelled}
+use Rattle.schema.specs.Each.{Each}
+use Rattle.schema.specs.Spelling.{Spells}
+use Rattle.schema.specs.MessageFault.{FieldFault}
+use Rattle.schema.specs.FirstFault.{Sound}
+use Rattle.schema_laws.proofs.Spelled.{fields_spelled}
 use Rattle.schema_laws.proofs.StepFaults.{whole, all_read}
 use Rattle.schema_laws.proofs.Agrees.{agrees}
 use Rattle.schema_laws.proofs.RowByRow.{value, value_nil, read_then}
-
--- the fields of a trace that is right
-trace_fields : (ps : List Placed) → fields (trace_of ps) ≡ fields_of ps
-trace_fields [] = refl
-trace_fields (p ∷ ps) = ap (λ (l : List Field). p.field ∷ l) (trace_fields ps)
-
--- the fields that a trace meets are those that the bytes spell
-pub fields_spelled : (base : ℕ) (bytes : List ℕ) (fs : List Field) → Spells bytes fs → fields (trace base bytes) ≡ fs
-fields_spelled base bytes fs s = let r = read_spelled base bytes fs s in ap fields r.1 ∙ trace_fields r.0 ∙ r.2
 
 -- the same with more fields to come
 pub value_then : (s : Shape) (u v : Value s) (base : ℕ) (bytes : List ℕ) (fs gs : List Field) → Spells bytes fs → merge s u base bytes ≡ Ok v → value s u (fs ++ gs) ≡ value s v gs

@@ -1,36 +1,26 @@
 -- The value of a field list as a function, row by row, and that reading field by field gives it.
-use Rattle.std.proofs.Common.{◌≡◌, ℕ, zero, suc, ◌+◌, ◌-◌, ◌%◌, Bool, true, false, cond, List, [], ◌∷◌, ◌++◌, length, Result, Ok, Err, refl, sym, ap, ◌∙◌, append_assoc}
-use Rattle.std.specs.Prelude.{◌==◌, Option, Some, None}
+use Rattle.std.proofs.Common.{◌≡◌, ℕ, ◌-◌, ◌%◌, Bool, true, false, cond, List, [], ◌∷◌, ◌++◌, length, Result, Ok, Err, refl, sym, ap, ◌∙◌}
+use Rattle.std.specs.Prelude.{◌==◌}
 use Rattle.std.specs.Int.{w64, from_le_bytes}
 use Rattle.std.specs.List.{flat_map}
 use Rattle.std.specs.Str.{is_utf8}
 use Rattle.std.proofs.lemmas.List.{append-nil}
 use Rattle.schema.specs.Field.{Eight, Field, Long, Payload, Varint}
 use Rattle.schema.specs.Fault.{Fault, NotBuilt, NotUtf8, PackedLength, Reason, fault_at}
-use Rattle.schema.specs.Steps.{Bad, Done, Met, Trace, field_at, met, trace, trace_upto, ◌>>=◌}
+use Rattle.schema.specs.Steps.{Trace, trace, ◌>>=◌}
 use Rattle.schema.specs.Shape.{Any, Bytes, Fixed, Format, I32, Index, IsMessage, Many, Number, NumberValue, One, Shape, Text, Unbuilt, Value, empty, fits_many, number_from}
-use Rattle.schema.specs.Merge.{at_place, merge, one_bytes, one_fixed, one_number, one_text, packed, packed_fixed, more_bytes, more_fixed, take_many, more_numbers, take_one, more_texts, run, take_field, text_of}
-use Rattle.schema.specs.Value.{bytes_in, fixed_in, number_in, of_number, others}
+use Rattle.schema.specs.Merge.{at_place, merge, one_bytes, one_fixed, one_number, packed, packed_fixed, more_bytes, more_fixed, take_many, more_numbers, take_one, more_texts, take_field}
+use Rattle.schema.specs.Run.{run, text_of}
+use Rattle.schema.specs.RowValue.{bytes_in, fixed_in, number_in, of_number, others}
 use Rattle.schema_laws.proofs.Results.{ok_is, bind_ok, checked_ok, refused_ok}
 use Rattle.schema_laws.proofs.Traces.{fields}
 use Rattle.schema_laws.proofs.Rows.{take_one_message, take_many_message, take_one_short, take_many_short}
+use Rattle.schema_laws.proofs.Folds.{or_else, last_said, inside, messages_of, fields_place, law_over, text_said, fold_many}
+use Rattle.schema.specs.AnyValue.{AnyValue}
+use Rattle.schema.specs.AnyMerge.{any_levels, item_at, merge_any}
+use Rattle.schema_laws.proofs.AnyValues.{add_gives, any_gives, any_nil, any_value, go_on_gives, item_gives}
 
 -- ---- the value
-
--- what is said, and else what stood before
-abbrev pub or_else : {A : Type 0} → Option A → A → A
-or_else (Some x) u = x
-or_else None u = u
-
--- what the last payload says that fits, and else what stood before
-abbrev pub last_said : {A : Type 0} → (Payload → Option A) → List Payload → A → A
-last_said said [] u = u
-last_said said (p ∷ ps) u = last_said said ps (or_else (said p) u)
-
--- the fields that a payload spells
-abbrev pub inside : Payload → List Field
-inside (Long b) = fields (trace 0 b)
-inside payload = []
 
 -- no numbers where they can't be read
 abbrev pub ok_or_none : {A E : Type 0} → Result (List A) E → List A
@@ -54,11 +44,6 @@ abbrev pub texts_of : Payload → List (List ℕ)
 texts_of (Long b) = b ∷ []
 texts_of payload = []
 
--- messages, of which `value` gives each
-abbrev pub messages_of : {A : Type 0} → (List Field → A) → Payload → List A
-messages_of value (Long b) = value (fields (trace 0 b)) ∷ []
-messages_of value payload = []
-
 -- a singular row over what stood before; `value` is that of a message
 abbrev pub one_value : (s : Shape) → (Value s → List Field → Value s) → List Payload → Value s → Value s
 one_value (Number w) value ps u = last_said (number_in w) ps u
@@ -66,7 +51,7 @@ one_value (Index T entry) value ps u = last_said (number_in I32) ps u
 one_value Fixed value ps u = last_said fixed_in ps u
 one_value Bytes value ps u = last_said bytes_in ps u
 one_value Text value ps u = last_said bytes_in ps u
-one_value (Any depth) value ps u = u
+one_value (Any depth) value ps u = any_value (any_levels depth) u (flat_map inside ps)
 one_value (Unbuilt k) value ps u = u
 one_value s value ps u = value u (flat_map inside ps)
 
@@ -77,7 +62,7 @@ many_value (Index T entry) value ps = flat_map (numbers_of I32) ps
 many_value Fixed value ps = flat_map fixed_of ps
 many_value Bytes value ps = flat_map texts_of ps
 many_value Text value ps = flat_map texts_of ps
-many_value (Any depth) value ps = []
+many_value (Any depth) value ps = flat_map (messages_of (any_value (any_levels depth) AnyValue.Empty)) ps
 many_value (Unbuilt k) value ps = []
 many_value s value ps = flat_map (messages_of (value (empty s))) ps
 
@@ -87,42 +72,19 @@ value (One n k rest) u fs = (one_value k (value k) (of_number n fs) u.0, value r
 value (Many n k rest) u fs = (u.0 ++ many_value k (value k) (of_number n fs), value rest u.1 (others n fs))
 value s u fs = u
 
--- ---- places
-
--- the fields of bytes don't depend on the place
-met_place : (a b len : ℕ) (r : Result (Field × List ℕ) Reason) (go : ℕ → List ℕ → Trace) → ((c d : ℕ) (bytes : List ℕ) → fields (go c bytes) ≡ fields (go d bytes)) → fields (met a len r go) ≡ fields (met b len r go)
-met_place a b len (Ok f) go h = ap (λ (t : List Field). f.0 ∷ t) (h (a + (len - length f.1)) (b + (len - length f.1)) f.1)
-met_place a b len (Err e) go h = refl
-
--- for so many steps
-place_upto : (k a b : ℕ) (bytes : List ℕ) → fields (trace_upto k a bytes) ≡ fields (trace_upto k b bytes)
-unfolding trace_upto
-place_upto zero a b bytes = refl
-place_upto (suc k) a b [] = refl
-place_upto (suc k) a b (x ∷ bytes) = met_place a b (length (x ∷ bytes)) (field_at (x ∷ bytes)) (trace_upto k) (place_upto k)
-
--- the fields at another place are the same
-pub fields_place : (a : ℕ) (bytes : List ℕ) → fields (trace a bytes) ≡ fields (trace 0 bytes)
-fields_place a bytes = place_upto (length bytes) a 0 bytes
-
 -- ---- one field after the other
 
 -- a field that is taken is no more among the fields to come
-abbrev Step : Shape → Type 0
+abbrev pub Step : Shape → Type 0
 Step s = (at end : ℕ) (f : Field) (u v : Value s) (fs : List Field) → take_field s at end f u ≡ Ok v → value s u (f ∷ fs) ≡ value s v fs
 
 -- and so are those of a trace
 abbrev pub Law : Shape → Type 0
 Law s = (t : Trace) (u v : Value s) (fs : List Field) → run (take_field s) u t ≡ Ok v → value s u (fields t ++ fs) ≡ value s v fs
 
--- what holds of one field holds of a trace
+-- and so it does of the step of a shape
 law_of : (s : Shape) → Step s → Law s
-unfolding run
-law_of s step Done u v fs e = ap (λ (x : Value s). value s x fs) (ok_is u v e)
-law_of s step (Bad at r) u v fs e = absurd cc
-law_of s step (Met at end f t) u v fs e =
-    let b = bind_ok (take_field s at end f u) (λ x. run (take_field s) x t) v e in
-    step at end f u b.0 (fields t ++ fs) b.1 ∙ law_of s step t b.0 v fs b.2
+law_of s step = law_over (take_field s) (value s) step
 
 -- ---- no fields
 
@@ -130,6 +92,7 @@ law_of s step (Met at end f t) u v fs e =
 one_nil : (k : Shape) → ((v : Value k) → value k v [] ≡ v) → (v : Value k) → one_value k (value k) [] v ≡ v
 one_nil (One n k rest) h v = h v
 one_nil (Many n k rest) h v = h v
+one_nil (Any depth) h v = any_nil (any_levels depth) v
 one_nil k h v = refl
 
 -- a repeated row of no payloads gains nothing
@@ -167,11 +130,6 @@ bytes_said : (p : Payload) (u : List ℕ) → or_else (bytes_in p) u ≡ one_byt
 bytes_said (Long b) u = refl
 bytes_said p u = refl
 
--- and of a text
-text_said : (at : ℕ) (p : Payload) (u x : List ℕ) → one_text at p u ≡ Ok x → or_else (bytes_in p) u ≡ x
-text_said at (Long b) u x e = (checked_ok (is_utf8 b) b x (fault_at at NotUtf8) e).1
-text_said at p u x e = ok_is u x e
-
 -- a singular row of any shape, a payload at a time
 one_step : (k : Shape) → Law k → (at end : ℕ) (p : Payload) (ps : List Payload) (u x : Value k) → take_one k (take_field k) at end p u ≡ Ok x
     → one_value k (value k) (p ∷ ps) u ≡ one_value k (value k) ps x
@@ -180,7 +138,8 @@ one_step (Index T entry) law at end p ps u x e = ap (last_said (number_in I32) p
 one_step Fixed law at end p ps u x e = ap (last_said fixed_in ps) (fixed_said p u ∙ ok_is (one_fixed p u) x e)
 one_step Bytes law at end p ps u x e = ap (last_said bytes_in ps) (bytes_said p u ∙ ok_is (one_bytes p u) x e)
 one_step Text law at end p ps u x e = ap (last_said bytes_in ps) (text_said at p u x e)
-one_step (Any depth) law at end p ps u x e = refl
+one_step (Any depth) law at end p ps u x e =
+    go_on_gives (merge_any (any_levels depth)) (any_value (any_levels depth)) (any_nil (any_levels depth)) (any_gives (any_levels depth)) at end p ps u x e
 one_step (Unbuilt k) law at end p ps u x e = refl
 one_step k law at end p ps u x e = one_message k tt law at end p ps u x e
 
@@ -224,10 +183,6 @@ texts_give at (Long b) u x e =
     ap (λ (t : List ℕ). u ++ t ∷ []) (checked_ok (is_utf8 b) b r.0 (fault_at at NotUtf8) r.1).1 ∙ ok_is (u ++ r.0 ∷ []) x r.2
 texts_give at p u x e = append-nil u ∙ ok_is u x e
 
--- elements that are taken are no more among those to come
-fold_many : {A : Type 0} (g : Payload → List A) (p : Payload) (ps : List Payload) (u x : List A) → u ++ g p ≡ x → u ++ flat_map g (p ∷ ps) ≡ x ++ flat_map g ps
-fold_many g p ps u x e = sym (append_assoc u (g p) (flat_map g ps)) ∙ ap (λ y. y ++ flat_map g ps) e
-
 -- a repeated row of any shape, a payload at a time
 many_step : (k : Shape) → Law k → (at end : ℕ) (p : Payload) (ps : List Payload) (u x : List (Value k)) → take_many k (take_field k) at end p u ≡ Ok x
     → u ++ many_value k (value k) (p ∷ ps) ≡ x ++ many_value k (value k) ps
@@ -236,7 +191,10 @@ many_step (Index T entry) law at end p ps u x e = fold_many (numbers_of I32) p p
 many_step Fixed law at end p ps u x e = fold_many fixed_of p ps u x (fixed_give at p u x e)
 many_step Bytes law at end p ps u x e = fold_many texts_of p ps u x (bytes_give p u x e)
 many_step Text law at end p ps u x e = fold_many texts_of p ps u x (texts_give at p u x e)
-many_step (Any depth) law at end p ps u x e = ap (λ (y : List (Value (Any depth))). y ++ []) (refused_ok (fits_many (Any depth) p) u x (fault_at at NotBuilt) e)
+many_step (Any depth) law at end p ps u x e =
+    fold_many (messages_of (any_value (any_levels depth) AnyValue.Empty)) p ps u x
+    (add_gives (item_at (merge_any (any_levels depth))) (any_value (any_levels depth) AnyValue.Empty)
+    (item_gives (merge_any (any_levels depth)) (any_value (any_levels depth)) (any_nil (any_levels depth)) (any_gives (any_levels depth))) at end p u x e)
 many_step (Unbuilt k) law at end p ps u x e = ap (λ (y : List (Value (Unbuilt k))). y ++ []) (refused_ok (fits_many k p) u x (fault_at at NotBuilt) e)
 many_step k law at end p ps u x e = fold_many (messages_of (value k (empty k))) p ps u x (many_message k tt law at end p u x e)
 
@@ -275,7 +233,7 @@ many_row n k rest law step false at end f u v fs e =
     ∙ ap (λ (y : List (Value k) × Value rest). let q : List (Value k) × Value rest = (y.0 ++ many_value k (value k) (of_number n fs), value rest y.1 (others n fs)) in q) p
 
 -- each shape takes a field at a time
-step_is : (s : Shape) → Step s
+pub step_is : (s : Shape) → Step s
 step_is (One n k rest) at end f u v fs e = one_row n k rest (law_of k (step_is k)) (step_is rest) (f.number == n) at end f u v fs e
 step_is (Many n k rest) at end f u v fs e = many_row n k rest (law_of k (step_is k)) (step_is rest) (f.number == n) at end f u v fs e
 step_is s at end f u v fs e = ok_is u v e

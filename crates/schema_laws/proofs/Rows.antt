@@ -6,7 +6,8 @@ use Rattle.schema.specs.Field.{Payload, Long, Field}
 use Rattle.schema.specs.Fault.{Reason, Fault, fault_at}
 use Rattle.schema.specs.Steps.{◌>>=◌, varint_at, trace}
 use Rattle.schema.specs.Shape.{Shape, End, One, Many, Format, NumberValue, Value, IsMessage, empty, number_from}
-use Rattle.schema.specs.Merge.{run, take_one, take_many, packed_upto, packed, more_packed, in_packed, packed_reason, at_place, fixed_upto, packed_fixed}
+use Rattle.schema.specs.Run.{run}
+use Rattle.schema.specs.Merge.{take_one, take_many, packed_upto, packed, more_packed, in_packed, packed_reason, at_place, fixed_upto, packed_fixed}
 use Rattle.schema_laws.proofs.Sizes.{Leaves, varint_leaves, number_size}
 
 -- ---- messages

@@ -1,47 +1,49 @@
 -- The value of a field list without a fault: the function against the relation.
-use Rattle.std.proofs.Common.{◌≡◌, ℕ, ◌-◌, ◌%◌, Bool, true, false, cond, List, [], ◌∷◌, ◌++◌, length, map, Result, Ok, Err, refl, sym, ap, subst, ◌∙◌, arith, inl, inr}
+use Rattle.std.proofs.Common.{◌≡◌, ℕ, ◌-◌, ◌%◌, Bool, true, false, cond, List, [], ◌∷◌, ◌++◌, length, map, Result, Ok, Err, refl, sym, ap, subst, ◌∙◌, inl, inr}
 use Rattle.std.specs.Prelude.{◌⊎◌, ◌==◌}
 use Rattle.std.specs.List.{flat_map}
-use Rattle.std.proofs.lemmas.Bool.{eqb-true, eqb-false, cases_eq}
+use Rattle.std.proofs.lemmas.Bool.{eqb-false, cases_eq}
 use Rattle.schema.specs.Field.{Field, Long, Payload, bytes_of}
 use Rattle.schema.specs.Fault.{Fault, PackedLength, Reason, fault_at}
 use Rattle.schema.specs.Steps.{trace}
 use Rattle.schema.specs.Shape.{Any, Bytes, End, Fixed, Format, I32, Index, IsMessage, Many, Number, NumberValue, One, Shape, Table, Text, Unbuilt, Value, empty, number_from}
-use Rattle.schema.specs.Merge.{merge, packed}
-use Rattle.schema.specs.Fits.{Each}
+use Rattle.schema.specs.Merge.{merge, packed, take_field, merge_all}
+use Rattle.schema.specs.Each.{Each}
 use Rattle.schema.specs.Spelling.{Spells}
-use Rattle.schema.specs.FirstFault.{BadPacked, FieldFault, FirstFault, ManyFault, OneFault, Sound}
-use Rattle.schema.specs.Value.{BytesOf, Concats, FixedOf, HasValue, IsRead, ManyValue, MessagesOf, NumbersOf, OneValue, bytes_in, fixed_in, number_in, of_number, others}
+use Rattle.schema.specs.FirstFault.{BadPacked, FirstFault, Sound}
+use Rattle.schema.specs.MessageFault.{FieldFault, ManyFault, OneFault}
+use Rattle.schema.specs.RowValue.{BytesOf, FixedOf, MessagesOf, NumbersOf, bytes_in, fixed_in, number_in, of_number, others}
+use Rattle.schema.specs.Value.{HasValue, IsRead, ManyValue, OneValue, IsReadInParts}
 use Rattle.schema_laws.proofs.Lists.{each_append}
 use Rattle.schema_laws.proofs.Traces.{fields}
 use Rattle.schema_laws.proofs.Spelled.{one_spelling, spells_append}
 use Rattle.schema_laws.proofs.Packed.{packed_found, packed_right, one_numbers}
-use Rattle.schema_laws.proofs.Agrees.{merge_sound}
-use Rattle.schema_laws.proofs.RowByRow.{inside, ok_or_none, numbers_of, fixed_of, texts_of, messages_of, one_value, many_value, value}
-use Rattle.schema_laws.proofs.ReadValue.{fields_spelled, value_from, value_to}
+use Rattle.schema_laws.proofs.Agrees.{agrees}
+use Rattle.schema_laws.proofs.Folds.{inside, messages_of}
+use Rattle.schema_laws.proofs.RowByRow.{ok_or_none, numbers_of, fixed_of, texts_of, one_value, many_value, value, step_is, value_nil}
+use Rattle.schema_laws.proofs.ReadValue.{value_from, value_to}
 use Rattle.schema_laws.proofs.Last.{last_is, is_last}
 use Rattle.schema_laws.proofs.Eights.{eights_right, eights_read}
+use Rattle.schema_laws.proofs.Occurrences.{PayloadSound, number_sound, Gives, concats_to, concats_back}
+use Rattle.schema.specs.AnyValue.{AnyValue}
+use Rattle.schema.specs.AnyMerge.{any_levels}
+use Rattle.schema.specs.AnyFaults.{AnyFault, LongFault}
+use Rattle.schema.specs.AnyRead.{HasAny}
+use Rattle.schema_laws.proofs.StepAgrees.{fields_sound}
+use Rattle.schema_laws.proofs.AnyValues.{any_value}
+use Rattle.schema_laws.proofs.AnySame.{any_elements, any_joined_back, any_joined_to}
+use Rattle.schema.specs.Parts.{Part}
+use Rattle.schema_laws.proofs.Parts.{ValueOver, all_from, all_to}
 
 -- ---- what a sound field list says of the payloads of a row, and of the other fields
-
--- the payload has no fault, wherever it lies
-abbrev PayloadSound : (ℕ → ℕ → Payload → Fault → Type 0) → Payload → Type 0
-PayloadSound F p = (at end : ℕ) (h : Fault) → F at end p h → ⊥
 
 -- a fault of a row's payload, or of the rows behind it
 abbrev RowFault : ℕ → (ℕ → ℕ → Payload → Fault → Type 0) → (ℕ → ℕ → Field → Fault → Type 0) → ℕ → ℕ → Field → Fault → Type 0
 RowFault n F Rest at end f g = ((f.number ≡ n) × F at end f.payload g) ⊎ (((f.number ≡ n) → ⊥) × Rest at end f g)
 
--- the payloads of the row's number have no fault, by the first field
-here_step : (n : ℕ) (F : ℕ → ℕ → Payload → Fault → Type 0) (Rest : ℕ → ℕ → Field → Fault → Type 0) (f : Field) (ps : List Payload) (t : Bool) → (t ≡ true → f.number ≡ n)
-    → Sound (RowFault n F Rest) f → Each (PayloadSound F) ps → Each (PayloadSound F) (cond t (f.payload ∷ ps) ps)
-here_step n F Rest f ps true e sound more = (λ at end h i. sound at end h (inl (e refl, i)), more)
-here_step n F Rest f ps false e sound more = more
-
--- the payloads of the row's number have no fault
+-- so have those of the row's number
 here_sound : (n : ℕ) (F : ℕ → ℕ → Payload → Fault → Type 0) (Rest : ℕ → ℕ → Field → Fault → Type 0) (fs : List Field) → Each (Sound (RowFault n F Rest)) fs → Each (PayloadSound F) (of_number n fs)
-here_sound n F Rest [] s = tt
-here_sound n F Rest (f ∷ fs) s = here_step n F Rest f (of_number n fs) (f.number == n) (eqb-true f.number n) s.0 (here_sound n F Rest fs s.1)
+here_sound n F Rest fs s = number_sound n F (RowFault n F Rest) (λ at end f h e i. inl (e, i)) fs s
 
 -- the other fields have none for the rows behind it, by the first field
 there_step : (n : ℕ) (F : ℕ → ℕ → Payload → Fault → Type 0) (Rest : ℕ → ℕ → Field → Fault → Type 0) (f : Field) (fs : List Field) (t : Bool) → (t ≡ false → f.number ≡ n → ⊥)
@@ -59,11 +61,7 @@ there_sound n F Rest (f ∷ fs) s = there_step n F Rest f (others n fs) (f.numbe
 -- a payload of a message without a fault spells the fields that are read
 spelled_inside : (k : Shape) (b : List ℕ) → ((at end : ℕ) (h : Fault) → FirstFault (FieldFault k) (end - length b) b h → ⊥)
     → Spells b (fields (trace 0 b)) × Each (Sound (FieldFault k)) (fields (trace 0 b))
-spelled_inside k b sound =
-    let o = merge_sound k (empty k) 0 b (λ g h. sound 0 (length b) g (subst (λ (base : ℕ). FirstFault (FieldFault k) base b g) (let e : 0 ≡ length b - length b = omega arith in e) h)) in
-    let w = value_from k (empty k) o.0 0 b o.1 in
-    let e = sym (fields_spelled 0 b w.0 w.1) in
-    (subst (Spells b) e w.1, subst (Each (Sound (FieldFault k))) e w.2)
+spelled_inside k b sound = fields_sound (take_field k) (FieldFault k) (agrees k) (empty k) b sound
 
 -- the fault of a payload as a message
 abbrev MessageFault : Shape → ℕ → ℕ → Payload → Fault → Type 0
@@ -138,7 +136,7 @@ one_to (Index T entry) same ps s u v e = is_last (number_in I32) ps u v e
 one_to Fixed same ps s u v e = is_last fixed_in ps u v e
 one_to Bytes same ps s u v e = is_last bytes_in ps u v e
 one_to Text same ps s u v e = is_last bytes_in ps u v e
-one_to (Any depth) same ps s u v e = e
+one_to (Any depth) same ps s u v e = any_joined_to (any_levels depth) ps s u v e
 one_to (Unbuilt k) same ps s u v e = e
 one_to k same ps s u v e = joined_to k same ps (as_one k tt ps s) u v e
 
@@ -149,31 +147,11 @@ one_back (Index T entry) same ps s u v e = last_is (number_in I32) ps u v e
 one_back Fixed same ps s u v e = last_is fixed_in ps u v e
 one_back Bytes same ps s u v e = last_is bytes_in ps u v e
 one_back Text same ps s u v e = last_is bytes_in ps u v e
-one_back (Any depth) same ps s u v e = e
+one_back (Any depth) same ps s u v e = any_joined_back (any_levels depth) ps s u v e
 one_back (Unbuilt k) same ps s u v e = e
 one_back k same ps s u v e = joined_back k same ps (as_one k tt ps s) u v e
 
 -- ---- repeated rows
-
--- Of says the elements of one occurrence, and g gives them
-pub record Gives {A : Type 0} (F : ℕ → ℕ → Payload → Fault → Type 0) (Of : Payload → List A → Type 0) (g : Payload → List A) : Type 0 where
-  pub to : (p : Payload) → PayloadSound F p → Of p (g p)
-  pub back : (p : Payload) (one : List A) → PayloadSound F p → Of p one → one ≡ g p
-
--- what holds of one occurrence holds of them all
-concats_to : {A : Type 0} (F : ℕ → ℕ → Payload → Fault → Type 0) (Of : Payload → List A → Type 0) (g : Payload → List A) → Gives F Of g
-    → (ps : List Payload) → Each (PayloadSound F) ps → (vs : List A) → vs ≡ flat_map g ps → Concats Of ps vs
-concats_to F Of g h [] s vs e = e
-concats_to F Of g h (p ∷ ps) s vs e = (g p, flat_map g ps, e, h.to p s.0, concats_to F Of g h ps s.1 (flat_map g ps) refl)
-
--- and the other way
-concats_back : {A : Type 0} (F : ℕ → ℕ → Payload → Fault → Type 0) (Of : Payload → List A → Type 0) (g : Payload → List A) → Gives F Of g
-    → (ps : List Payload) → Each (PayloadSound F) ps → (vs : List A) → Concats Of ps vs → vs ≡ flat_map g ps
-concats_back F Of g h [] s vs e = e
-concats_back F Of g h (p ∷ ps) s vs c =
-    let here = h.back p c.0 s.0 c.3 in
-    let more = concats_back F Of g h ps s.1 c.1 c.4 in
-    let e = c.2 in cc (e, here, more)
 
 -- packed numbers; the fault of an index is that of its number
 abbrev PackedFault : ℕ → ℕ → Payload → Fault → Type 0
@@ -273,7 +251,7 @@ many_to (Index T entry) same ps s vs e = concats_to PackedFault (NumbersOf I32) 
 many_to Fixed same ps s vs e = concats_to FixedFault FixedOf fixed_of fixed ps s vs e
 many_to Bytes same ps s vs e = concats_to (ManyFault Bytes (FieldFault Bytes)) BytesOf texts_of (texts (ManyFault Bytes (FieldFault Bytes))) ps s vs e
 many_to Text same ps s vs e = concats_to (ManyFault Text (FieldFault Text)) BytesOf texts_of (texts (ManyFault Text (FieldFault Text))) ps s vs e
-many_to (Any depth) same ps s vs e = e
+many_to (Any depth) same ps s vs e = concats_to (LongFault (AnyFault (any_levels depth))) (MessagesOf (HasAny (any_levels depth) AnyValue.Empty)) (messages_of (any_value (any_levels depth) AnyValue.Empty)) (any_elements (any_levels depth)) ps s vs e
 many_to (Unbuilt k) same ps s vs e = e
 many_to k same ps s vs e = concats_to (MessageFault k) (MessagesOf (HasValue k (empty k))) (messages_of (value k (empty k))) (messages k same) ps (as_many k tt ps s) vs e
 
@@ -284,7 +262,7 @@ many_back (Index T entry) same ps s vs e = concats_back PackedFault (NumbersOf I
 many_back Fixed same ps s vs e = concats_back FixedFault FixedOf fixed_of fixed ps s vs e
 many_back Bytes same ps s vs e = concats_back (ManyFault Bytes (FieldFault Bytes)) BytesOf texts_of (texts (ManyFault Bytes (FieldFault Bytes))) ps s vs e
 many_back Text same ps s vs e = concats_back (ManyFault Text (FieldFault Text)) BytesOf texts_of (texts (ManyFault Text (FieldFault Text))) ps s vs e
-many_back (Any depth) same ps s vs e = e
+many_back (Any depth) same ps s vs e = concats_back (LongFault (AnyFault (any_levels depth))) (MessagesOf (HasAny (any_levels depth) AnyValue.Empty)) (messages_of (any_value (any_levels depth) AnyValue.Empty)) (any_elements (any_levels depth)) ps s vs e
 many_back (Unbuilt k) same ps s vs e = e
 many_back k same ps s vs e = concats_back (MessageFault k) (MessagesOf (HasValue k (empty k))) (messages_of (value k (empty k))) (messages k same) ps (as_many k tt ps s) vs e
 
@@ -328,3 +306,22 @@ read_from s u v base bytes e =
 -- and the message value is the Ok
 pub read_to : (s : Shape) (u v : Value s) (base : ℕ) (bytes : List ℕ) → IsRead s u bytes v → merge s u base bytes ≡ Ok v
 read_to s u v base bytes r = let a = same s in value_to s u v base bytes r.fields r.spelled r.sound (a.back u v r.fields r.sound r.value)
+
+-- ---- parts
+
+-- the value row by row is that of fields of which each is taken
+value_over : (s : Shape) → ValueOver (take_field s) (FieldFault s) (agrees s) (value s)
+value_over s = (value_nil s, step_is s)
+
+-- an Ok is the value of the parts
+pub parts_from : (s : Shape) (u v : Value s) (parts : List Part) → merge_all s u parts ≡ Ok v → IsReadInParts s u parts v
+parts_from s u v parts e =
+    let r = all_from (take_field s) (FieldFault s) (agrees s) (value s) (value_over s) u v parts e in
+    let a = same s in
+    record { fields = r.fields; spelled = r.spelled; sound = r.sound; value = a.to u v r.fields r.sound r.value }
+
+-- and the value of the parts is the Ok
+pub parts_to : (s : Shape) (u v : Value s) (parts : List Part) → IsReadInParts s u parts v → merge_all s u parts ≡ Ok v
+parts_to s u v parts r =
+    let a = same s in
+    all_to (take_field s) (FieldFault s) (agrees s) (value s) (value_over s) u v parts r.fields r.spelled r.sound (a.back u v r.fields r.sound r.value)

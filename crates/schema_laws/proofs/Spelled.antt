@@ -6,7 +6,7 @@ use Rattle.schema.specs.Steps.{Bad, Met, field_at, met, trace}
 use Rattle.schema.specs.Spelling.{Placed, Spells, SpellsAt, SpellsField, fields_of, trace_of}
 use Rattle.schema.specs.FirstFault.{BadField}
 use Rattle.schema_laws.proofs.Results.{ok_is}
-use Rattle.schema_laws.proofs.Traces.{trace_is, trace_end}
+use Rattle.schema_laws.proofs.Traces.{trace_is, trace_end, fields}
 use Rattle.schema_laws.proofs.OneField.{field_read, field_found, field_bad, field_some, bad_some, FieldFound}
 
 -- a spelled field at the front is met
@@ -120,3 +120,14 @@ one_spelling bytes (f ∷ fs) (g ∷ gs) a b =
 pub spells_append : (x y : List ℕ) (fs gs : List Field) → Spells x fs → Spells y gs → Spells (x ++ y) (fs ++ gs)
 spells_append x y [] gs a b = subst (λ (z : List ℕ). Spells (z ++ y) gs) (sym a) b
 spells_append x y (f ∷ fs) gs a b = (a.0, a.1 ++ y, ap (λ (z : List ℕ). z ++ y) a.2 ∙ append_assoc a.0 a.1 y, a.3, spells_append a.1 y fs gs a.4 b)
+
+-- ---- the fields of a trace
+
+-- the fields of a trace that is right
+trace_fields : (ps : List Placed) → fields (trace_of ps) ≡ fields_of ps
+trace_fields [] = refl
+trace_fields (p ∷ ps) = ap (λ (l : List Field). p.field ∷ l) (trace_fields ps)
+
+-- the fields that a trace meets are those that the bytes spell
+pub fields_spelled : (base : ℕ) (bytes : List ℕ) (fs : List Field) → Spells bytes fs → fields (trace base bytes) ≡ fs
+fields_spelled base bytes fs s = let r = read_spelled base bytes fs s in ap fields r.1 ∙ trace_fields r.0 ∙ r.2

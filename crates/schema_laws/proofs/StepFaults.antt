@@ -3,8 +3,8 @@ use Rattle.std.proofs.Common.{◌≡◌, ℕ, zero, suc, ◌+◌, ◌<◌, List,
 use Rattle.schema.specs.Field.{Field}
 use Rattle.schema.specs.Fault.{Fault, fault_at}
 use Rattle.schema.specs.Steps.{Trace, trace, ◌>>=◌}
-use Rattle.schema.specs.Merge.{run}
-use Rattle.schema.specs.Fits.{Each}
+use Rattle.schema.specs.Run.{run}
+use Rattle.schema.specs.Each.{Each}
 use Rattle.schema.specs.Spelling.{Spells, SpellsField}
 use Rattle.schema.specs.FirstFault.{BadField, FirstFault, Sound, WrongAt}
 use Rattle.schema_laws.proofs.Results.{err_is, bind_ok}

@@ -3,7 +3,7 @@ use Rattle.std.proofs.Common.{◌≡◌, ℕ, zero, suc, ◌+◌, ◌-◌, ◌<�
 use Rattle.schema.specs.Field.{Field}
 use Rattle.schema.specs.Fault.{Reason, Fault, fault_at}
 use Rattle.schema.specs.Steps.{◌>>=◌, field_at, Trace, Done, Bad, Met, met, trace, trace_upto}
-use Rattle.schema.specs.Merge.{run}
+use Rattle.schema.specs.Run.{run}
 use Rattle.schema_laws.proofs.Sizes.{Leaves, field_size, field_leaves}
 
 -- a first field, and the same behind it

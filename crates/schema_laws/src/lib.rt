@@ -10,3 +10,6 @@ pub mod fields;
 
 /// Laws of values and faults: what is read of a message.
 pub mod reading;
+
+/// Laws of AnyValue, the value that holds values of its own kind.
+pub mod any;

@@ -1,11 +1,12 @@
 ghost use Rattle.std.specs.Prelude.{◌≡◌, ℕ, List, Ok, Err, ◌↔◌};
 ghost use Rattle.schema.specs.Fault.{Fault};
 ghost use Rattle.schema.specs.Field.{Field};
-ghost use Rattle.schema.specs.FirstFault.{HasFault, HasFaultInParts};
-ghost use Rattle.schema.specs.Merge.{Part, merge, merge_all};
+ghost use Rattle.schema.specs.MessageFault.{HasFault, HasFaultInParts};
+ghost use Rattle.schema.specs.Parts.{Part, SpellsEach, joined};
+ghost use Rattle.schema.specs.Merge.{merge, merge_all};
 ghost use Rattle.schema.specs.Shape.{Shape, Value};
 ghost use Rattle.schema.specs.Spelling.{Spells};
-ghost use Rattle.schema.specs.Value.{IsRead, IsReadInParts, SpellsEach, joined};
+ghost use Rattle.schema.specs.Value.{IsRead, IsReadInParts};
 
 /// Reading fails exactly with the first fault of the bytes, whatever was read before.
 pub fn faults_are_found()

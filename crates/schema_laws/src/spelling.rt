@@ -1,9 +1,10 @@
 ghost use Rattle.std.specs.Prelude.{◌≡◌, ℕ, ◌+◌, ◌*◌, ◌<◌, ◌≤◌, ◌^◌, List, ◌++◌, length, Ok, true};
-ghost use Rattle.schema.specs.Fits.{Each, Fits, Lawful, is_lawful};
-ghost use Rattle.schema.specs.Merge.{Part, merge, merge_all};
+ghost use Rattle.schema.specs.Each.{Each};
+ghost use Rattle.schema.specs.Fits.{Fits, Lawful, is_lawful};
+ghost use Rattle.schema.specs.Parts.{Part, joined};
+ghost use Rattle.schema.specs.Merge.{merge, merge_all};
 ghost use Rattle.schema.specs.Shape.{IsMessage, Shape, Value, empty};
 ghost use Rattle.schema.specs.Spell.{spell, spell_onto, len_onto};
-ghost use Rattle.schema.specs.Value.{joined};
 
 /// Rows that are appended one after the other are the spelling, and the lengths of the rows add up to its length. That a
 /// program computes the length of a row right is a clause of that program.

@@ -1,0 +1,5 @@
+use Rattle.schema_laws.proofs.AnySame.{any_from, any_to}
+use Rattle.schema_laws.proofs.any.any_reads_the_value.Goals as goal
+
+pub returns : goal.returns
+returns c = λ left at end b u v. (any_from left at end b u v, any_to left at end b u v)
