@@ -1,6 +1,6 @@
 -- Trees of values, and trees that are meanings.
 use Rattle.std.proofs.Common.{◌≡◌, ℕ, zero, suc, List, [], ◌∷◌, get_or, map, cond, refl, sym, ap, ◌∙◌, subst, pos, negsuc}
-use Rattle.schema.specs.Fits.{Each}
+use Rattle.schema.specs.Each.{Each}
 use Rattle.schema.specs.Shape.{Shape, Index, One, Many, Table, Value, empty}
 use Rattle.schema_laws.proofs.Lists.{each_append}
 use Rattle.meaning.specs.Tree.{Tree, Natural, Integer, Boolean, Octets, Nil, Cons, listed, elements, tree, value, IsOf}

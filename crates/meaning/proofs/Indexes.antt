@@ -1,22 +1,23 @@
 -- What code with tables and a memo shows at each index.
-use Rattle.std.proofs.Common.{◌≡◌, ℕ, zero, suc, ◌<◌, List, [], ◌∷◌, length, get_or, set, map, Option, Some, None, Bool, true, false, cond, refl, sym, ap, ◌∙◌, subst, arith, ⊎_elim, pos}
-use Rattle.std.proofs.lemmas.List.{length-set, get_or-set_other, get_or-map, length-map}
+use Rattle.std.proofs.Common.{◌≡◌, ℕ, zero, suc, ◌<◌, List, [], ◌∷◌, ◌++◌, length, get_or, replicate, set, map, Option, Some, None, Bool, true, false, cond, refl, sym, ap, ◌∙◌, subst, arith, ⊎_elim, pos}
+use Rattle.std.proofs.lemmas.List.{length-replicate, length-set, get_or-set_other, get_or-map, length-map}
 use Rattle.std.proofs.lemmas.Grind.{get_or-set_at}
 use Rattle.std.proofs.lemmas.Bool.{cases_eq, and_parts, and_from}
-use Rattle.schema.specs.Fits.{Each}
+use Rattle.schema.specs.Each.{Each}
 use Rattle.schema.specs.Shape.{Shape, Index, One, Many, Table}
 use Rattle.meaning.specs.Tree.{Tree, Integer}
 use Rattle.meaning.specs.Tables.{Tables, entry, same_table, has, place, with_new}
-use Rattle.meaning.specs.Meaning.{zero_value, resolve, uses, HasZeros}
+use Rattle.meaning.specs.Meaning.{blank, zero_value, resolve, uses, HasZeros}
 use Rattle.meaning.specs.Canonical.{values}
 use Rattle.meaning.specs.Steps.{Stands, Interned, Written, WrittenEach, is_plain, Memo, Ready, Noted}
-use Rattle.meaning.proofs.Places.{each_all, with_new-all}
-use Rattle.meaning.proofs.Sound.{same_table-true, entry_sound}
+use Rattle.schema_laws.proofs.Lists.{each_left}
+use Rattle.meaning.proofs.Places.{each_all, grown-begins, place-lt, with_new-all}
+use Rattle.meaning.proofs.Sound.{same_table-itself, same_table-true, entry_sound}
 use Rattle.meaning.proofs.Closed.{zero_uses}
 use Rattle.meaning.proofs.Orders.{avoids, uses_none}
 use Rattle.meaning.proofs.Zero.{ZerosFirst, zero-place, zero-had, blank-resolves}
-use Rattle.meaning.proofs.Grown.{same_grown, written_grown, written_again, renumber-plain, written_none, written_single, written_append}
-use Rattle.meaning.proofs.Interned.{written_index}
+use Rattle.meaning.proofs.Grown.{same_grown, written_covers, written_grown, written_again, renumber-plain, written_none, written_single, written_append}
+use Rattle.meaning.proofs.Interned.{begins, written_index}
 
 -- ---- an index that was met before
 
@@ -57,6 +58,7 @@ met_first d v k k' memo memo' T i j x r s h p n =
     let now : Written (Index T (entry T)) u u m (Integer (pos j)) = written_again alone.1 (same_grown u) in (
       record {
         stands = here.0;
+        zeros = λ U. zeros_now U (grown-begins (cond (same_table U T) (x ∷ []) []) (k U));
         kept = λ U. kept_now U (same_table U T) refl
             (λ a b l e. written_again (r.kept U a b l e) (written_grown alone.1)) now (n U);
         all = λ U. length_now U (same_table U T) (n U);
@@ -64,6 +66,9 @@ met_first d v k k' memo memo' T i j x r s h p n =
       here.1,
     )
   where
+    zeros_now : (U : Table) → (more : List Tree) × (with_new (k U) (cond (same_table U T) (x ∷ []) []) ≡ k U ++ more) → (rest : List Tree) × (k' U ≡ blank (entry U) ∷ rest)
+    zeros_now U g = ((r.zeros U).0 ++ g.0, h U ∙ g.1 ∙ ap (λ l. l ++ g.0) (r.zeros U).1)
+
     kept_now : (U : Table) (t : Bool) → same_table U T ≡ t
         → ((a b : ℕ) → a < length (memo U) → get_or (memo U) a None ≡ Some b → Known d (values k') U a b)
         → Known d (values k') T i j
@@ -92,6 +97,44 @@ pub zero_written : (d v : Tables) → HasZeros d → ZerosFirst v → (T : Table
     → Written (Index T (entry T)) v v (resolve d (Index T (entry T)) (Integer (pos 0))) (Integer (pos 0))
 zero_written d v h g T =
     subst (λ m. Written (Index T (entry T)) v v m (Integer (pos 0))) (sym (blank-resolves d h (Index T (entry T)) (refl, entry_sound T))) (written_zero v g T)
+
+-- so it does where a program keeps its tables
+pub zero_met : {d k : Tables} {memo : Memo} → Ready d k memo → HasZeros d → (T : Table)
+    → Written (Index T (entry T)) (values k) (values k) (resolve d (Index T (entry T)) (Integer (pos 0))) (Integer (pos 0))
+zero_met {d} {k} r h T = zero_written d (values k) h first T
+  where
+    zero : HasZeros k
+    zero U = ap (λ l. get_or l 0 (blank (entry U))) (r.zeros U).1
+
+    first : ZerosFirst (values k)
+    first U =
+        let e : values k U ≡ resolve k (entry U) (blank (entry U)) ∷ map (resolve k (entry U)) (r.zeros U).0 = ap (map (resolve k (entry U))) (r.zeros U).1 in
+        (map (resolve k (entry U)) (r.zeros U).0, e ∙ ap (λ b. b ∷ map (resolve k (entry U)) (r.zeros U).0) (blank-resolves k zero (entry U) (entry_sound U)))
+
+-- a new index is one of its table
+pub written_place : (k : Tables) (T : Table) (v : Tables) (m : Tree) (j : ℕ) → Written (Index T (entry T)) v (values k) m (Integer (pos j)) → j < length (k T)
+written_place k T v m j r =
+    let here : has (values k T) m ≡ true = (rw same_table-itself at (each_left (λ x. has (values k T) x ≡ true) (cond (same_table T T) (m ∷ []) []) _ (written_covers r T))).0 in
+    let e : j ≡ place (values k T) m = same_place j (place (values k T) m) r.renumbered in
+    omega (arith, place-lt (values k T) m here, length-map (k T) (resolve k (entry T)))
+  where
+    same_place : (i n : ℕ) → Integer (pos i) ≡ Integer (pos n) → i ≡ n
+    same_place i n e = cc
+
+-- tables of zero entries alone and no index that was met are ready
+pub first_ready : (d k : Tables) (memo : Memo) → ((T : Table) → k T ≡ blank (entry T) ∷ []) → ((T : Table) → memo T ≡ replicate (length (d T)) None) → Ready d k memo
+first_ready d k memo h e = record {
+  stands = (begins k h).1;
+  zeros = λ T. ([], h T);
+  kept = λ T i j l q. absurd (none (length (d T)) i j (rw (e T) at q));
+  all = λ T. rw (e T) (length-replicate (length (d T)) None);
+}
+  where
+    none : (n i j : ℕ) → get_or (replicate n None) i None ≡ Some j → ⊥
+    none zero zero j q = cc
+    none zero (suc i) j q = cc
+    none (suc n) zero j q = cc
+    none (suc n) (suc i) j q = none n i j q
 
 -- a shape without indexes names no entry of any table
 plain-avoids : (T : Table) (s : Shape) → is_plain s ≡ true → avoids T s ≡ true

@@ -1,7 +1,7 @@
 -- An entry that goes into its table, with the index that it has there.
 use Rattle.std.proofs.Common.{◌≡◌, ℕ, [], ◌∷◌, map, Bool, true, false, cond, refl, sym, ap, ◌∙◌, subst, pos}
 use mathlib.Core.Path.{fun_ext}
-use Rattle.schema.specs.Fits.{Each}
+use Rattle.schema.specs.Each.{Each}
 use Rattle.schema.specs.Shape.{Shape, Index, Table}
 use Rattle.meaning.specs.Tree.{Tree, Integer}
 use Rattle.meaning.specs.Tables.{Tables, IsSound, entry, same_table, place, with_one, with_new, Distinct}

@@ -1,7 +1,8 @@
 -- The canonical message of a meaning means it, and its bytes are read back.
 use Rattle.std.proofs.Common.{◌≡◌, ℕ, List, [], ◌∷◌, map, true, refl, sym, ap, ◌∙◌, subst, arith, Ok, ⊎_elim}
 use mathlib.Core.Path.{fun_ext}
-use Rattle.schema.specs.Fits.{Each, HasRow, Lawful, Fits}
+use Rattle.schema.specs.Each.{Each}
+use Rattle.schema.specs.Fits.{HasRow, Lawful, Fits}
 use Rattle.schema.specs.Merge.{merge}
 use Rattle.schema.specs.Shape.{Shape, End, One, Value, empty, Table, Mappings, Locations, Functions, Links, Strings, Attributes, Stacks}
 use Rattle.schema_laws.proofs.Back.{reads_back}

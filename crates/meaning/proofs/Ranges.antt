@@ -3,15 +3,21 @@ use Rattle.std.proofs.Common.{◌≡◌, ℕ, suc, ◌+◌, ◌%◌, ◌^◌, �
 use Rattle.std.specs.Int.{w32, w64, cast_signed, cast_unsigned}
 use Rattle.std.proofs.lemmas.Int.{to_z_pos}
 use Rattle.std.proofs.lemmas.List.{length-map, length-append}
-use Rattle.schema.specs.Fits.{Each, Fits, FitsNumber, FitsTogether, Lawful}
+use Rattle.schema.specs.Each.{Each}
+use Rattle.schema.specs.Fits.{Fits, FitsTogether, Lawful}
+use Rattle.schema.specs.Texts.{FitsNumber, items_text, long_field}
 use Rattle.schema.specs.Shape.{Shape, Number, Fixed, Text, Any, Index, Unbuilt, End, One, Many, I32, IsMessage, Value, empty, Table, Mappings, Locations, Functions, Links, Strings, Attributes, Stacks}
+use Rattle.schema.specs.AnyValue.{AnyValue}
+use Rattle.schema.specs.AnyMerge.{any_levels}
+use Rattle.schema.specs.AnySpell.{AnyInRange, FitsAny}
 use Rattle.schema.specs.Merge.{merge}
-use Rattle.schema.specs.Spell.{items_text, long_field, spell}
-use Rattle.schema_laws.proofs.Growth.{InRange, NoneIn, long_field_le}
+use Rattle.schema.specs.Spell.{spell}
+use Rattle.schema_laws.proofs.Growth.{InRange, AlsoIn}
+use Rattle.schema_laws.proofs.Lengths.{long_field_le}
 use Rattle.schema_laws.proofs.GrowthOfLists.{empty_in}
 use Rattle.schema_laws.proofs.Onto.{long_some}
 use Rattle.schema_laws.proofs.ReadFits.{fits_from}
-use Rattle.meaning.specs.Tree.{Tree, Integer, Nil, listed, elements, tree, value, IsOf, same}
+use Rattle.meaning.specs.Tree.{Tree, Integer, Nil, listed, elements, tree, value, IsOf, same, any_of, any_tree}
 use Rattle.meaning.specs.Tables.{Tables, IsSound, entry, field_of, place}
 use Rattle.meaning.specs.Meaning.{at_each, zero_value, entry_at, resolve, AreParts, AreElements}
 use Rattle.meaning.specs.Canonical.{tables_of, renumber, entries, records, record_list}
@@ -25,11 +31,11 @@ use Rattle.meaning.proofs.Texts.{text-parts}
 
 -- ---- values
 
--- a repeated row that isn't read has no elements
-none_together : (k : Shape) (vs : List (Value k)) → FitsTogether k vs → NoneIn k vs
-none_together (Any depth) vs h = h
-none_together (Unbuilt k) vs h = h
-none_together k vs h = tt
+-- a repeated row that isn't read has no elements, and AnyValues that can be written are in their range
+also_together : (k : Shape) (vs : List (Value k)) → FitsTogether k vs → AlsoIn k vs
+also_together (Any depth) vs h = each_all (FitsAny (any_levels depth)) (AnyInRange (any_levels depth)) (λ v f. f.0) vs h
+also_together (Unbuilt k) vs h = h
+also_together k vs h = tt
 
 -- a value that can be written is in its range
 in_range : (s : Shape) (x : Value s) → Fits s x → InRange s x
@@ -37,40 +43,47 @@ in_range (Number w) x h = h
 in_range (Index T k) x h = h
 in_range Fixed x h = h
 in_range Text x h = h.0
+in_range (Any depth) x h = h.0
 in_range (One n k rest) x h = (in_range k x.0 h.0, in_range rest x.1 h.2)
 in_range (Many n k rest) x h = (
   each_all (λ y. Fits k y × (length (spell k y) < 2 ^ 64)) (InRange k) (λ y f. in_range k y f.0) x.0 h.0,
-  none_together k x.0 h.1,
+  also_together k x.0 h.1,
   in_range rest x.1 h.2,
 )
 in_range s x h = tt
 
 -- ---- meanings
 
--- the tree of a list of what is not read is the empty one
-abbrev IsNone : Shape → Tree → Type 0
-IsNone (Any depth) t = t ≡ Nil
-IsNone (Unbuilt k) t = t ≡ Nil
-IsNone k t = Unit {0}
+-- the tree of a list of what is not read is the empty one, and that of AnyValues holds such as can be written
+abbrev AlsoRange : Shape → Tree → Type 0
+AlsoRange (Any depth) t = AreElements (λ e. AnyInRange (any_levels depth) (any_of e)) t
+AlsoRange (Unbuilt k) t = t ≡ Nil
+AlsoRange k t = Unit {0}
 
 -- the leaves of a meaning are in their range
 abbrev HasRange : Shape → Tree → Type 0
 HasRange (Index T k) t = HasRange k t
 HasRange (One n k rest) t = AreParts (HasRange k) (HasRange rest) t
-HasRange (Many n k rest) t = AreParts (λ e. AreElements (HasRange k) e × IsNone k e) (HasRange rest) t
+HasRange (Many n k rest) t = AreParts (λ e. AreElements (HasRange k) e × AlsoRange k e) (HasRange rest) t
 HasRange s t = InRange s (value s t)
 
--- the empty list is one of no elements
-nil_none : (k : Shape) → IsNone k Nil
-nil_none (Any depth) = refl
-nil_none (Unbuilt k) = refl
-nil_none k = tt
+-- so is the empty list
+nil_also : (k : Shape) → AlsoRange k Nil
+nil_also (Any depth) = refl
+nil_also (Unbuilt k) = refl
+nil_also k = tt
 
--- a list of what isn't read is empty
-list_none : (k : Shape) (f : Tree → Tree) (vs : List (Value k)) → NoneIn k vs → IsNone k (at_each f (listed (map (tree k) vs)))
-list_none (Any depth) f vs h = ap (λ l. at_each f (listed (map (tree (Any depth)) l))) h
-list_none (Unbuilt k) f vs h = ap (λ l. at_each f (listed (map (tree (Unbuilt k)) l))) h
-list_none k f vs h = tt
+-- AnyValues that can be written, as what they mean
+values_also : (d : Tables) (depth : ℕ) (vs : List AnyValue) → Each (AnyInRange (any_levels depth)) vs
+    → AreElements (λ e. AnyInRange (any_levels depth) (any_of e)) (at_each (resolve d (Any depth)) (listed (map any_tree vs)))
+values_also d depth [] h = refl
+values_also d depth (v ∷ vs) h = (subst (AnyInRange (any_levels depth)) (sym (value-tree (Any depth) v)) h.0, values_also d depth vs h.1)
+
+-- what a repeated row means
+list_also : (d : Tables) (k : Shape) (vs : List (Value k)) → AlsoIn k vs → AlsoRange k (at_each (resolve d k) (listed (map (tree k) vs)))
+list_also d (Any depth) vs h = values_also d depth vs h
+list_also d (Unbuilt k) vs h = ap (λ l. at_each (resolve d (Unbuilt k)) (listed (map (tree (Unbuilt k)) l))) h
+list_also d k vs h = tt
 
 -- an entry is the tree of a value in its range
 abbrev IsEntry : Shape → Tree → Type 0
@@ -93,7 +106,7 @@ named_entry k = entry_has (IsEntry k) k (value_entry k (empty k) (empty_in k))
 resolved_range : (d : Tables) → ((T : Table) → Each (IsEntry (entry T)) (d T)) → (s : Shape) → IsSound s → (x : Value s) → InRange s x → HasRange s (resolve d s (tree s x))
 resolved_range d a (One n k rest) i x h = (resolved_range d a k i.0 x.0 h.0, resolved_range d a rest i.1 x.1 h.1)
 resolved_range d a (Many n k rest) i x h =
-    ((each_ranges (resolved_range d a k i.0) x.0 h.0, list_none k (resolve d k) x.0 h.1), resolved_range d a rest i.1 x.1 h.2)
+    ((each_ranges (resolved_range d a k i.0) x.0 h.0, list_also d k x.0 h.1), resolved_range d a rest i.1 x.1 h.2)
   where
     each_ranges : ((y : Value k) → InRange k y → HasRange k (resolve d k (tree k y))) → (ys : List (Value k)) → Each (InRange k) ys
         → AreElements (HasRange k) (at_each (resolve d k) (listed (map (tree k) ys)))
@@ -108,7 +121,7 @@ resolved_range d a s i x h = subst (InRange s) (sym (value-tree s x)) h
 -- a zero value has them so
 zero_range : (s : Shape) → HasRange s (zero_value s)
 zero_range (One n k rest) = (zero_range k, zero_range rest)
-zero_range (Many n k rest) = ((refl, nil_none k), zero_range rest)
+zero_range (Many n k rest) = ((refl, nil_also k), zero_range rest)
 zero_range (Index T k) = zero_range k
 zero_range s = subst (InRange s) (sym (value-tree s (empty s))) (empty_in s)
 
@@ -120,7 +133,7 @@ tables_range s i m h T = tables_have HasRange handed_on (λ U. zero_range (entry
     handed_on = record {
       one = λ n k rest t h. h;
       many = λ n k rest t h.
-          by_parts (λ t. AreParts (AreElements (HasRange k)) (HasRange rest) t) (λ e. AreElements (HasRange k) e × IsNone k e) (HasRange rest) (λ t ts p q. (p.0, q)) t h;
+          by_parts (λ t. AreParts (AreElements (HasRange k)) (HasRange rest) t) (λ e. AreElements (HasRange k) e × AlsoRange k e) (HasRange rest) (λ t ts p q. (p.0, q)) t h;
       index = λ U k t h. h;
     }
 
@@ -141,11 +154,18 @@ small_index n h =
     let e : cast_unsigned w64 (pos n) % 2 ^ 32 ≡ n = omega arith in
     (omega arith, ap (cast_signed w32) e ∙ to_z_pos w32 n h)
 
--- the elements of a list of what is not read
-no_elements : (k : Shape) (f : Tree → Tree) (t : Tree) → IsNone k t → NoneIn k (map (value k) (elements (at_each f t)))
-no_elements (Any depth) f t h = ap (λ e. map (value (Any depth)) (elements (at_each f e))) h
-no_elements (Unbuilt k) f t h = ap (λ e. map (value (Unbuilt k)) (elements (at_each f e))) h
-no_elements k f t h = tt
+-- AnyValues have no indexes
+values_renumbered : (v : Tables) (depth : ℕ) (t : Tree) → AreElements (λ e. AnyInRange (any_levels depth) (any_of e)) t
+    → Each (AnyInRange (any_levels depth)) (map any_of (elements (at_each (renumber v (Any depth)) t)))
+values_renumbered v depth t h =
+    by_elements (λ u. Each (AnyInRange (any_levels depth)) (map any_of (elements (at_each (renumber v (Any depth)) u)))) (λ e. AnyInRange (any_levels depth) (any_of e)) tt
+    (λ u us m o. (m, o)) t h
+
+-- the elements of a repeated row
+elements_also : (v : Tables) (k : Shape) (t : Tree) → AlsoRange k t → AlsoIn k (map (value k) (elements (at_each (renumber v k) t)))
+elements_also v (Any depth) t h = values_renumbered v depth t h
+elements_also v (Unbuilt k) t h = ap (λ e. map (value (Unbuilt k)) (elements (at_each (renumber v (Unbuilt k)) e))) h
+elements_also v k t h = tt
 
 -- so a meaning whose leaves are in their range is in its range, with the places in lists that are short
 renumbered_range : (v : Tables) → ((T : Table) → length (v T) < 2 ^ 31) → (s : Shape) (t : Tree) → HasRange s t → InRange s (value s (renumber v s t))
@@ -153,11 +173,11 @@ renumbered_range v l (One n k rest) t h =
     by_parts (λ t. InRange (One n k rest) (value (One n k rest) (renumber v (One n k rest) t))) (HasRange k) (HasRange rest)
     (λ t ts p q. (renumbered_range v l k t p, renumbered_range v l rest ts q)) t h
 renumbered_range v l (Many n k rest) t h =
-    by_parts (λ t. InRange (Many n k rest) (value (Many n k rest) (renumber v (Many n k rest) t))) (λ e. AreElements (HasRange k) e × IsNone k e) (HasRange rest)
+    by_parts (λ t. InRange (Many n k rest) (value (Many n k rest) (renumber v (Many n k rest) t))) (λ e. AreElements (HasRange k) e × AlsoRange k e) (HasRange rest)
     (λ t ts p q. (
       by_elements (λ u. Each (InRange k) (map (value k) (elements (at_each (renumber v k) u)))) (HasRange k) tt
           (λ u us m o. (renumbered_range v l k u m, o)) t p.0,
-      no_elements k (renumber v k) t p.1,
+      elements_also v k t p.1,
       renumbered_range v l rest ts q,
     )) t h
 renumbered_range v l (Index T k) t h =
@@ -212,18 +232,18 @@ whole_most k h ms T =
 
 -- ---- messages
 
--- a row of messages may have elements
-message_none : (k : Shape) → IsMessage k → (t : Tree) → IsNone k t
-message_none End h t = tt
-message_none (One n k rest) h t = tt
-message_none (Many n k rest) h t = tt
-message_none s h t = absurd h
+-- nothing more is asked of a row of messages
+message_also : (k : Shape) → IsMessage k → (t : Tree) → AlsoRange k t
+message_also End h t = tt
+message_also (One n k rest) h t = tt
+message_also (Many n k rest) h t = tt
+message_also s h t = absurd h
 
-messages_none : (k : Shape) → IsMessage k → (vs : List (Value k)) → NoneIn k vs
-messages_none End h vs = tt
-messages_none (One n k rest) h vs = tt
-messages_none (Many n k rest) h vs = tt
-messages_none s h vs = absurd h
+messages_also : (k : Shape) → IsMessage k → (vs : List (Value k)) → AlsoIn k vs
+messages_also End h vs = tt
+messages_also (One n k rest) h vs = tt
+messages_also (Many n k rest) h vs = tt
+messages_also s h vs = absurd h
 
 -- the entries of a dictionary in its range
 dictionary_entries : (d : Value dictionary) → InRange dictionary d → (T : Table) → Each (IsEntry (entry T)) (tables_in d T)
@@ -259,9 +279,9 @@ canonical_range : (k : Shape) → IsMessage k → IsSound k → (ms : List Tree)
 canonical_range k e i ms h l =
     let v : Tables = tables_for k ms in
     let t : (T : Table) → Each (HasRange (entry T)) (v T) =
-    tables_range (records k) (i, tt) (record_list ms) ((listed_range k ms h, message_none k e (listed ms)), tt) in (
+    tables_range (records k) (i, tt) (record_list ms) ((listed_range k ms h, message_also k e (listed ms)), tt) in (
       each_map (InRange k) (λ m. value k (renumber v k m)) ms (each_all (HasRange k) (λ m. InRange k (value k (renumber v k m))) (renumbered_range v l k) ms h),
-      messages_none k e _,
+      messages_also k e _,
       (
         dictionary_range (entries v) (λ T.
             each_map (InRange (entry T)) (value (entry T)) (entries v T)

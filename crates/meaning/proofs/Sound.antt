@@ -1,7 +1,7 @@
 -- Tables can be told apart, and the schema's shapes are sound.
 use Rattle.std.proofs.Common.{◌≡◌, ℕ, zero, suc, [], ◌∷◌, Bool, true, false, cond, refl, sym, ap, ◌∙◌}
 use Rattle.std.proofs.lemmas.Bool.{eqb-true}
-use Rattle.schema.specs.Fits.{Each}
+use Rattle.schema.specs.Each.{Each}
 use Rattle.schema.specs.Messages.{string, mapping, location, function, attribute, stack, profile, key_value, scope_profiles, resource_profiles}
 use Rattle.schema.specs.Shape.{Table, Mappings, Locations, Functions, Links, Strings, Attributes, Stacks}
 use Rattle.meaning.specs.Tree.{Tree}

@@ -1,18 +1,24 @@
 -- The parts of canonical bytes.
 use Rattle.std.proofs.Common.{◌≡◌, ℕ, ◌<◌, List, [], ◌∷◌, ◌++◌, length, map, refl, sym, ap, ◌∙◌, arith}
+use mathlib.Core.Path.{fun_ext}
 use Rattle.std.proofs.lemmas.Bool.{ne_eqb}
 use Rattle.std.proofs.lemmas.List.{length-append, append-nil}
 use Rattle.schema.specs.Fits.{Lawful, Fits}
 use Rattle.schema.specs.Shape.{Shape, End, One, Many, IsMessage, Table, Mappings, Locations, Functions, Links, Strings, Attributes, Stacks}
-use Rattle.schema.specs.Spell.{varint_upto, long_field, bytes_field, items_text, spell, spell_many}
+use Rattle.schema.specs.Texts.{varint_upto, long_field, bytes_field, items_text}
+use Rattle.schema.specs.Spell.{spell, spell_many}
 use Rattle.schema_laws.proofs.Lawful.{lawful_from}
 use Rattle.schema_laws.proofs.ReadFits.{spelled_apart}
-use Rattle.meaning.specs.Tree.{Tree, tree, value, octets_of, IsOf}
+use Rattle.meaning.specs.Tree.{Tree, tree, value, octets_of, IsOf, listed, elements, head_of}
 use Rattle.meaning.specs.Tables.{Tables, entry}
-use Rattle.meaning.specs.Meaning.{blank}
+use Rattle.meaning.specs.Meaning.{blank, at_each}
+use Rattle.meaning.specs.Steps.{Drafted}
 use Rattle.meaning.specs.Canonical.{renumber, entries, records, record_list}
 use Rattle.meaning.specs.Message.{dictionary, dictionary_value, table_values, tables_for, meaning_text, entry_text, table_text, dictionary_text, record_text}
+use Rattle.meaning.proofs.Drafts.{draft_canonical}
+use Rattle.meaning.proofs.Grown.{each-listed}
 use Rattle.meaning.proofs.Places.{map-map}
+use Rattle.meaning.proofs.Trees.{elements-listed}
 use Rattle.meaning.proofs.Zero.{entries_first}
 
 -- ---- the dictionary
@@ -82,6 +88,20 @@ text-parts k h ms =
     ∙ bytes-long 2 (dictionary_text (entries v)) (dictionary-long (entries v) (strings-long (entries v) (blank (entry Strings)) first.0 first.1)) in
     ap (λ l. l ++ (bytes_field 2 (spell dictionary (dictionary_value (entries v))) ++ [])) r
     ∙ ap (λ l. items_text 1 (map (λ m. record_text k (renumber v k m)) ms) ++ l) (append-nil _ ∙ d)
+
+-- ---- drafts
+
+-- the bytes of a draft are the canonical ones of its meanings
+pub draft-text : (s : Shape) → IsMessage s → (k : Tables) (ms xs : List Tree) → Drafted s k ms xs
+    → meaning_text s ms ≡ items_text 1 (map (record_text s) xs) ++ long_field 2 (dictionary_text k)
+draft-text s h k ms xs r =
+    let v : Tables = tables_for s ms in
+    let c = draft_canonical s k ms xs r in
+    let e : elements (head_of (record_list xs)) ≡ elements (at_each (renumber v s) (listed ms)) = ap (λ t. elements (head_of t)) c.1 in
+    let f : xs ≡ map (renumber v s) ms = sym (elements-listed xs) ∙ e ∙ ap elements (each-listed (renumber v s) ms) ∙ elements-listed (map (renumber v s) ms) in
+    text-parts s h ms
+    ∙ ap (λ l. items_text 1 l ++ long_field 2 (dictionary_text (entries v))) (sym (map-map (renumber v s) (record_text s) ms) ∙ ap (map (record_text s)) (sym f))
+    ∙ ap (λ d. items_text 1 (map (record_text s) xs) ++ long_field 2 (dictionary_text d)) (sym (fun_ext c.0))
 
 -- ---- keys
 

@@ -5,7 +5,8 @@ use Rattle.std.proofs.lemmas.Bool.{eqb-true, eq-eqb, and_parts, and_from}
 use Rattle.std.proofs.lemmas.Bool.Decides.{Decides-int_eq}
 use Rattle.std.proofs.lemmas.Slice.Eq.{bytes_eq-Decides}
 use Rattle.schema.specs.Shape.{Shape, Number, Fixed, Bytes, Text, Any, Index, Unbuilt, End, One, Many, Format, U32, U64, I32, I64, Flag, NumberValue, Value}
-use Rattle.meaning.specs.Tree.{Tree, Natural, Integer, Boolean, Octets, Nil, Cons, number_tree, number_of, listed, elements, tree, value, same}
+use Rattle.meaning.specs.Tree.{Tree, Natural, Integer, Boolean, Octets, Nil, Cons, number_tree, number_of, listed, elements, tree, value, same, any_of, any_tree, pairs_of, pairs_tree, values_of, values_tree}
+use Rattle.schema.specs.AnyValue.{AnyValue, Values, NoValues, AddValue, KeyValues, NoPairs, AddPair}
 
 -- ---- values
 
@@ -27,13 +28,35 @@ map-undone : {A B : Type 0} (f : A → B) (g : B → A) → ((x : A) → g (f x)
 map-undone f g h [] = refl
 map-undone f g h (x ∷ xs) = let e : g (f x) ≡ x = h x in let r : map g (map f xs) ≡ xs = map-undone f g h xs in cc
 
+mutual
+  -- the AnyValue of its tree
+  any-back : (v : AnyValue) → any_of (any_tree v) ≡ v
+  any-back AnyValue.Empty = refl
+  any-back (AnyValue.Text b) = refl
+  any-back (AnyValue.Flag x) = refl
+  any-back (AnyValue.Int z) = refl
+  any-back (AnyValue.Double b) = refl
+  any-back (AnyValue.Items vs) = ap (λ (x : Values). AnyValue.Items x) (values-back vs)
+  any-back (AnyValue.Pairs kvs) = ap (λ (x : KeyValues). AnyValue.Pairs x) (pairs-back kvs)
+  any-back (AnyValue.Raw b) = refl
+
+  -- its elements
+  values-back : (vs : Values) → values_of (values_tree vs) ≡ vs
+  values-back NoValues = refl
+  values-back (AddValue v vs) = let a = any-back v in let b = values-back vs in cc
+
+  -- and its keys and values
+  pairs-back : (kvs : KeyValues) → pairs_of (pairs_tree kvs) ≡ kvs
+  pairs-back NoPairs = refl
+  pairs-back (AddPair k v kvs) = let a = any-back v in let b = pairs-back kvs in cc
+
 -- the value of the tree of a value
 pub value-tree : (s : Shape) (v : Value s) → value s (tree s v) ≡ v
 value-tree (Number w) v = number_back w v
 value-tree Fixed v = refl
 value-tree Bytes v = refl
 value-tree Text v = refl
-value-tree (Any depth) v = refl
+value-tree (Any depth) v = any-back v
 value-tree (Index T entry) v = refl
 value-tree (Unbuilt k) v = refl
 value-tree End v = refl

@@ -1,6 +1,6 @@
 -- The canonical tables of a meaning, and the indexes of its values there.
 use Rattle.std.specs.Prelude.{◌≡◌, ℕ, ℤ, pos, negsuc, ◌<◌, List, [], ◌∷◌, map, length, true}
-use Rattle.schema.specs.Fits.{Each}
+use Rattle.schema.specs.Each.{Each}
 use Rattle.schema.specs.Shape.{Shape, Index, End, One, Many, Table}
 use Rattle.meaning.specs.Tree.{Tree, Integer, Nil, Cons, integer_of, listed}
 use Rattle.meaning.specs.Tables.{Tables, entry, has, place, with_new}

@@ -2,20 +2,13 @@
 -- bytes of a meaning.
 use Rattle.std.specs.Prelude.{ℕ, List, ◌++◌, map}
 use Rattle.schema.specs.Shape.{Shape, Value, Table, Mappings, Locations, Functions, Links, Strings, Attributes, Stacks}
-use Rattle.schema.specs.Messages.{dictionary_shape, envelope_shape}
-use Rattle.schema.specs.Spell.{items_text, spell}
+pub use Rattle.schema.specs.Messages.{dictionary, message}
+use Rattle.schema.specs.Texts.{items_text}
+use Rattle.schema.specs.Spell.{spell}
 use Rattle.meaning.specs.Tree.{Tree, octets_of, tree, value}
 use Rattle.meaning.specs.Tables.{Tables, entry, field_of}
 use Rattle.meaning.specs.Meaning.{resolve}
 use Rattle.meaning.specs.Canonical.{tables_of, renumber, entries, records, record_list}
-
--- the dictionary, all of whose tables are read
-abbrev pub dictionary : Shape
-dictionary = dictionary_shape entry
-
--- a message of records of this shape
-abbrev pub message : Shape → Shape
-message k = envelope_shape k dictionary
 
 -- ---- what a message means
 

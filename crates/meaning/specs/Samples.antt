@@ -3,7 +3,7 @@ use Rattle.std.specs.Prelude.{◌≡◌, ℕ, pos, negsuc, List, [], ◌∷◌, 
 use Rattle.schema.specs.Messages.{mapping, location, function, link, attribute, stack, sample, value_type}
 use Rattle.schema.specs.Shape.{Value, empty}
 use Rattle.meaning.specs.Message.{dictionary, message, meaning_of, canonical_value, meaning_text}
-use Rattle.schema.specs.Spell.{varint_upto, number_field, long_field, bytes_field}
+use Rattle.schema.specs.Texts.{varint_upto, number_field, long_field, bytes_field}
 
 -- a dictionary with these locations, strings and stacks, and with the zero entry alone in each other table
 abbrev dictionary_with : List (Value location) → List (List ℕ) → List (Value stack) → Value dictionary

@@ -1,11 +1,11 @@
 -- What holds in the middle of renumbering a message. The steps speak of meanings, wherever these come from.
 use Rattle.std.specs.Prelude.{◌≡◌, ℕ, pos, ◌<◌, List, [], ◌∷◌, Bool, true, false, ◌&&◌, cond, Option, Some, None, length, map, get_or, set}
 use Rattle.std.specs.List.{flat_map}
-use Rattle.schema.specs.Fits.{Each}
+use Rattle.schema.specs.Each.{Each}
 use Rattle.schema.specs.Shape.{Shape, Index, One, Many, Table, Value}
 use Rattle.meaning.specs.Tree.{Tree, Integer, tree}
 use Rattle.meaning.specs.Tables.{Tables, entry, same_table, with_new, Distinct}
-use Rattle.meaning.specs.Meaning.{resolve, uses}
+use Rattle.meaning.specs.Meaning.{blank, resolve, uses}
 use Rattle.meaning.specs.Canonical.{zeros, renumber, entries, values, Covers}
 
 -- ---- entries
@@ -53,10 +53,15 @@ is_plain s = true
 abbrev pub Memo : Type 0
 Memo = Table → List (Option ℕ)
 
--- What a program keeps in the middle of a message with the dictionary d: its new entries k stand, and each index i that
--- its memo holds was written as j, which adds nothing now.
+-- each table begins with its zero entry
+abbrev pub BeginWithZeros : Tables → Type 0
+BeginWithZeros k = (T : Table) → (rest : List Tree) × (k T ≡ blank (entry T) ∷ rest)
+
+-- What a program keeps in the middle of a message with the dictionary d: its new entries k stand and begin with the zero
+-- entries, and each index i that its memo holds was written as j, which adds nothing now.
 pub record Ready (d k : Tables) (memo : Memo) : Type 0 where
   pub stands : Stands k
+  pub zeros : BeginWithZeros k
   pub kept : (T : Table) (i j : ℕ) → i < length (memo T) → get_or (memo T) i None ≡ Some j
       → Written (Index T (entry T)) (values k) (values k) (resolve d (Index T (entry T)) (Integer (pos i))) (Integer (pos j))
   pub all : (T : Table) → length (memo T) ≡ length (d T)

@@ -4,11 +4,13 @@
 #![tactic(auto)]
 
 ghost use Rattle.std.specs.Prelude.{◌≡◌, ℕ, ◌<◌, ◌^◌, pos, List, [], ◌∷◌, ◌++◌, length, take, map, Ok, true};
-ghost use Rattle.schema.specs.Fits.{Each, Fits, Lawful};
+ghost use Rattle.schema.specs.Each.{Each};
+ghost use Rattle.schema.specs.Fits.{Fits, Lawful};
 ghost use Rattle.schema.specs.Merge.{merge};
 ghost use Rattle.schema.specs.Shape.{IsMessage, Shape, Index, Table, Value, empty};
 ghost use Rattle.schema.specs.Messages.{profile, resource_profiles};
-ghost use Rattle.schema.specs.Spell.{items_text, long_field, spell};
+ghost use Rattle.schema.specs.Texts.{items_text, long_field};
+ghost use Rattle.schema.specs.Spell.{spell};
 ghost use Rattle.meaning.specs.Tree.{Tree, Integer, tree, value, IsOf};
 ghost use Rattle.meaning.specs.Tables.{Tables, IsSound, entry, has, Distinct};
 ghost use Rattle.meaning.specs.Meaning.{resolve, uses, blank, zero_value, entry_at, HasZeros, filled, IsMeaning};
@@ -94,12 +96,15 @@ pub fn drafts_grow_and_are_cut_back()
         → Stands d → Stands e → WrittenEach k (values d) (values e) ns ys → (T : Table) → take (length (d T)) (e T) ≡ d T }
 {}
 
-/// The entries and records of a draft are the canonical ones of its meanings.
+/// The entries and records of a draft are the canonical ones of its meanings, and so are its bytes: the records, each behind
+/// its tag and length, and then the dictionary.
 pub fn drafts_are_canonical()
     ensures entries { (k : Shape) → (d : Tables) → (ms : List Tree) → (xs : List Tree) → Drafted k d ms xs → (T : Table)
         → d T ≡ entries (tables_of (records k) (record_list ms)) T }
     ensures records { (k : Shape) → (d : Tables) → (ms : List Tree) → (xs : List Tree) → Drafted k d ms xs
         → record_list xs ≡ renumber (tables_of (records k) (record_list ms)) (records k) (record_list ms) }
+    ensures bytes { (k : Shape) → IsMessage k → (d : Tables) → (ms : List Tree) → (xs : List Tree) → Drafted k d ms xs
+        → meaning_text k ms ≡ items_text 1 (map (record_text k) xs) ++ long_field 2 (dictionary_text d) }
 {}
 
 /// Two meanings that the lists cover and that are renumbered alike are the same.

@@ -2,9 +2,10 @@
 use Rattle.std.proofs.Common.{◌≡◌, ℕ, map, sym, subst, ◌≤◌, List, [], ◌∷◌, ◌++◌, length, ap, arith, length-append}
 use Rattle.std.specs.Prelude.{ℤ, pos}
 use Rattle.schema.specs.Shape.{Shape, Value, I32}
-use Rattle.schema.specs.Spell.{varint, number_to, numbers_text, items_text, spell, number_field, long_field, bytes_field}
+use Rattle.schema.specs.Texts.{varint, number_to, numbers_text, items_text, number_field, long_field, bytes_field}
+use Rattle.schema.specs.Spell.{spell}
 use Rattle.schema_laws.proofs.Onto.{varint_at_most}
-use Rattle.schema_laws.proofs.Growth.{number_len, long_field_len, bytes_field_len}
+use Rattle.schema_laws.proofs.Lengths.{number_len, long_field_len, bytes_field_len}
 
 -- a number and a text, in a field each
 pub leaf_short : (z : ℤ) (name : List ℕ) → z ≡ pos 150 → length name ≤ 7 → length (number_field 1 (number_to I32 z) ++ (bytes_field 2 name ++ [])) ≤ 60

@@ -6,7 +6,8 @@ use Rattle.std.proofs.lemmas.List.{append-nil}
 use Rattle.std.proofs.lemmas.List.Folds.{flat_map-map, length-flat_map-take}
 use Rattle.std.proofs.lemmas.Grind.{take_at_read, flat_map-append}
 use Rattle.schema.specs.Shape.{Shape, Value, Format, NumberValue}
-use Rattle.schema.specs.Spell.{varint, spell, len_onto, number_to, long_field, bytes_field, numbers_text, items_text}
+use Rattle.schema.specs.Texts.{varint, number_to, long_field, bytes_field, numbers_text, items_text}
+use Rattle.schema.specs.Spell.{spell, len_onto}
 use Rattle.schema_laws.proofs.Onto.{long_len, onto_len}
 
 -- the length of a field of bytes, where theirs has another name

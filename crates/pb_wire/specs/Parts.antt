@@ -1,5 +1,5 @@
 -- A piece of a message, as the definitions of `schema` see it.
-use Rattle.schema.specs.Merge.{Part}
+use Rattle.schema.specs.Parts.{Part}
 use Rattle.pb_wire.specs.declared.pieces.Piece.{Piece}
 
 abbrev pub part_view : Piece → Part

@@ -1,6 +1,7 @@
 //! The lengths of the rows of a message, in bytes. They take no memory.
 ghost use Rattle.std.specs.Prelude.{◌≡◌, ◌+◌, ◌*◌, ◌<◌, ◌≤◌, ◌^◌, length, map};
-ghost use Rattle.schema.specs.Spell.{varint, number_to, number_field, fixed_field, bytes_field, numbers_text, fixed_text, items_text, spell};
+ghost use Rattle.schema.specs.Texts.{varint, number_to, number_field, fixed_field, bytes_field, numbers_text, fixed_text, items_text};
+ghost use Rattle.schema.specs.Spell.{spell};
 
 use crate::put::varint_len;
 use crate::{Blob, Number, Repeated, Text, Wire};
@@ -17,7 +18,7 @@ pub(crate) fn long_len(number: u32, len: u64) -> u64
 
 /// The length of the row of a number.
 #[inline]
-#[tactic(auto, unfolding(schema::specs::Spell::number_field))]
+#[tactic(auto, unfolding(schema::specs::Texts::number_field))]
 pub fn number_len<N: Number>(number: u32, value: N) -> u64
     requires { number < 2 ^ 29 }
     ensures { result ≡ length (number_field number (number_to N.format (N.value value))) }
@@ -31,7 +32,7 @@ pub fn number_len<N: Number>(number: u32, value: N) -> u64
 
 /// The length of the row of eight bytes.
 #[inline]
-#[tactic(auto, unfolding(schema::specs::Spell::fixed_field))]
+#[tactic(auto, unfolding(schema::specs::Texts::fixed_field))]
 pub fn fixed_len(number: u32, value: u64) -> u64
     requires { number < 2 ^ 29 }
     ensures { result ≡ length (fixed_field number value) }
@@ -44,7 +45,7 @@ pub fn fixed_len(number: u32, value: u64) -> u64
 
 /// The length of the row of bytes.
 #[inline]
-#[tactic(auto, using(schema_laws::proofs::Growth::bytes_field_le, crate::proofs::Rows::bytes_none, crate::proofs::Rows::bytes_some, schema_laws::proofs::Onto::long_len))]
+#[tactic(auto, using(schema_laws::proofs::Lengths::bytes_field_le, crate::proofs::Rows::bytes_none, crate::proofs::Rows::bytes_some, schema_laws::proofs::Onto::long_len))]
 pub fn bytes_len(number: u32, bytes: &Blob) -> u64
     requires below { number < 2 ^ 29 }
     requires room { length (bytes_field number bytes.now) < 2 ^ 63 }
@@ -58,7 +59,7 @@ pub fn bytes_len(number: u32, bytes: &Blob) -> u64
 
 /// The length of the row of a text.
 #[inline]
-#[tactic(auto, using(schema_laws::proofs::Growth::bytes_field_le, crate::proofs::Rows::bytes_none, crate::proofs::Rows::bytes_some, schema_laws::proofs::Onto::long_len))]
+#[tactic(auto, using(schema_laws::proofs::Lengths::bytes_field_le, crate::proofs::Rows::bytes_none, crate::proofs::Rows::bytes_some, schema_laws::proofs::Onto::long_len))]
 pub fn text_len(number: u32, text: &Text) -> u64
     requires below { number < 2 ^ 29 }
     requires room { length (bytes_field number text.now) < 2 ^ 63 }
@@ -73,7 +74,7 @@ pub fn text_len(number: u32, text: &Text) -> u64
 
 /// The length of the row of a message.
 #[inline]
-#[tactic(auto, using(schema_laws::proofs::Growth::bytes_field_le, crate::proofs::Rows::bytes_none, crate::proofs::Rows::bytes_some, schema_laws::proofs::Onto::long_len, schema_laws::proofs::Onto::onto_len))]
+#[tactic(auto, using(schema_laws::proofs::Lengths::bytes_field_le, crate::proofs::Rows::bytes_none, crate::proofs::Rows::bytes_some, schema_laws::proofs::Onto::long_len, schema_laws::proofs::Onto::onto_len))]
 pub fn message_len<T: Wire>(number: u32, message: &T) -> u64
     requires below { number < 2 ^ 29 }
     requires room { length (bytes_field number (spell T.shape (T.view message.now))) < 2 ^ 63 }
@@ -100,7 +101,7 @@ pub(crate) fn packed_len<N: Number>(items: &[N]) -> u64
 }
 
 /// The length of the row of packed numbers.
-#[tactic(auto, using(schema_laws::proofs::Growth::bytes_field_le, crate::proofs::Rows::bytes_none, crate::proofs::Rows::bytes_some, schema_laws::proofs::Onto::long_len))]
+#[tactic(auto, using(schema_laws::proofs::Lengths::bytes_field_le, crate::proofs::Rows::bytes_none, crate::proofs::Rows::bytes_some, schema_laws::proofs::Onto::long_len))]
 pub fn numbers_len<N: Number>(number: u32, items: &Repeated<N>) -> u64
     requires below { number < 2 ^ 29 }
     requires room { length (bytes_field number (numbers_text N.format (map N.value items.now))) < 2 ^ 63 }
@@ -115,7 +116,7 @@ pub fn numbers_len<N: Number>(number: u32, items: &Repeated<N>) -> u64
 
 /// The length of the row of packed eight-byte values.
 #[inline]
-#[tactic(auto, using(schema_laws::proofs::Growth::bytes_field_le, crate::proofs::Rows::bytes_none, crate::proofs::Rows::bytes_some, schema_laws::proofs::Onto::long_len, schema_laws::proofs::Fixed::fixed_len))]
+#[tactic(auto, using(schema_laws::proofs::Lengths::bytes_field_le, crate::proofs::Rows::bytes_none, crate::proofs::Rows::bytes_some, schema_laws::proofs::Onto::long_len, schema_laws::proofs::Fixed::fixed_len))]
 pub fn fixed_list_len(number: u32, items: &Repeated<u64>) -> u64
     requires below { number < 2 ^ 29 }
     requires room { length (bytes_field number (fixed_text items.now)) < 2 ^ 63 }

@@ -1,7 +1,7 @@
 //! Numbers of the schema.
 ghost use Rattle.std.specs.Prelude.{◌≡◌};
 ghost use Rattle.schema.specs.Shape.{Format, U32, U64, I32, I64, Flag, NumberValue, number_from};
-ghost use Rattle.schema.specs.Spell.{number_to};
+ghost use Rattle.schema.specs.Texts.{number_to};
 
 /// A number that is written as a varint.
 pub trait Number: Copy + Drop {

@@ -22,7 +22,7 @@ pub struct Pieces<'a> {
 
 impl<'a> Model for Pieces<'a> {
     ghost use Rattle.std.specs.Prelude.{List, map, All, ◌+◌, ◌<◌, ◌^◌, length};
-    ghost use Rattle.schema.specs.Merge.{Part};
+    ghost use Rattle.schema.specs.Parts.{Part};
     ghost use Rattle.pb_wire.specs.Parts.{part_view};
 
     ghost Value = { List Part };

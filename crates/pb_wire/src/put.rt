@@ -1,6 +1,6 @@
 //! Writing varints and single fields.
 ghost use Rattle.std.specs.Prelude.{◌≡◌, ◌+◌, ◌*◌, ◌<◌, ◌≤◌, ◌^◌, ◌++◌, length, OnOk, OnErr};
-ghost use Rattle.schema.specs.Spell.{varint, long_field, field_text};
+ghost use Rattle.schema.specs.Texts.{varint, long_field, field_text};
 ghost use Rattle.pb_wire.specs.Answers.{Begins};
 ghost use Rattle.pb_wire.specs.View.{payload_view};
 
@@ -69,7 +69,7 @@ pub fn put_varint(out: &mut Blob, value: u64) -> Result<(), NoMemory>
 
 /// Puts a tag, a length and bytes at the end; after want of memory the bytes so far still stand in front.
 #[inline]
-#[tactic(auto, using(crate::proofs::Begins::growing), unfolding(schema::specs::Spell::long_field))]
+#[tactic(auto, using(crate::proofs::Begins::growing), unfolding(schema::specs::Texts::long_field))]
 pub(crate) fn push_long(out: &mut Blob, number: u32, bytes: &[u8]) -> Result<(), NoMemory>
     requires { number < 2 ^ 29 }
     ensures ok { OnOk result (out.new ≡ out.old ++ long_field number bytes.now) }

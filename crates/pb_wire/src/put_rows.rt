@@ -1,6 +1,7 @@
 //! Writing the rows of a message. After want of memory a part of the row may stand at the end of `out`.
 ghost use Rattle.std.specs.Prelude.{◌≡◌, ◌+◌, ◌*◌, ◌<◌, ◌≤◌, ◌^◌, ◌++◌, length, map, OnOk, OnErr};
-ghost use Rattle.schema.specs.Spell.{varint, len_onto, number_to, number_field, fixed_field, long_field, bytes_field, numbers_text, fixed_text, items_text, spell};
+ghost use Rattle.schema.specs.Texts.{varint, number_to, number_field, fixed_field, long_field, bytes_field, numbers_text, fixed_text, items_text};
+ghost use Rattle.schema.specs.Spell.{len_onto, spell};
 ghost use Rattle.pb_wire.specs.Answers.{Begins};
 
 use crate::lengths::packed_len;
@@ -9,7 +10,7 @@ use crate::{Blob, NoMemory, Number, Repeated, Text, Wire};
 
 /// Puts a number that is not 0.
 #[inline]
-#[tactic(auto, using(crate::proofs::Begins::growing), unfolding(schema::specs::Spell::number_field))]
+#[tactic(auto, using(crate::proofs::Begins::growing), unfolding(schema::specs::Texts::number_field))]
 pub fn put_number<N: Number>(out: &mut Blob, number: u32, value: N) -> Result<(), NoMemory>
     requires { number < 2 ^ 29 }
     ensures ok { OnOk result (out.new ≡ out.old ++ number_field number (number_to N.format (N.value value))) }
@@ -26,7 +27,7 @@ pub fn put_number<N: Number>(out: &mut Blob, number: u32, value: N) -> Result<()
 
 /// Puts eight bytes, the low ones first, of a number that is not 0.
 #[inline]
-#[tactic(auto, using(crate::proofs::Begins::growing), unfolding(schema::specs::Spell::fixed_field))]
+#[tactic(auto, using(crate::proofs::Begins::growing), unfolding(schema::specs::Texts::fixed_field))]
 pub fn put_fixed(out: &mut Blob, number: u32, value: u64) -> Result<(), NoMemory>
     requires { number < 2 ^ 29 }
     ensures ok { OnOk result (out.new ≡ out.old ++ fixed_field number value) }
@@ -42,7 +43,7 @@ pub fn put_fixed(out: &mut Blob, number: u32, value: u64) -> Result<(), NoMemory
 
 /// Puts bytes that are not empty.
 #[inline]
-#[tactic(auto, using(crate::proofs::Begins::growing), unfolding(schema::specs::Spell::bytes_field))]
+#[tactic(auto, using(crate::proofs::Begins::growing), unfolding(schema::specs::Texts::bytes_field))]
 fn put_slice(out: &mut Blob, number: u32, bytes: &[u8]) -> Result<(), NoMemory>
     requires { number < 2 ^ 29 }
     ensures ok { OnOk result (out.new ≡ out.old ++ bytes_field number bytes.now) }
@@ -123,7 +124,7 @@ fn push_message<T: Wire>(out: &mut Blob, number: u32, len: u64, message: &T) -> 
 }
 
 /// Puts a message that is not empty.
-#[tactic(auto, using(crate::proofs::Begins::growing, schema_laws::proofs::Growth::bytes_field_le, crate::proofs::Rows::left_out, crate::proofs::Rows::bytes_some, schema_laws::proofs::Onto::onto_len))]
+#[tactic(auto, using(crate::proofs::Begins::growing, schema_laws::proofs::Lengths::bytes_field_le, crate::proofs::Rows::left_out, crate::proofs::Rows::bytes_some, schema_laws::proofs::Onto::onto_len))]
 pub fn put_message<T: Wire>(out: &mut Blob, number: u32, message: &T) -> Result<(), NoMemory>
     requires below { number < 2 ^ 29 }
     requires room { length (bytes_field number (spell T.shape (T.view message.now))) < 2 ^ 63 }
@@ -173,7 +174,7 @@ fn push_packed<N: Number>(out: &mut Blob, items: &[N]) -> Result<(), NoMemory>
 }
 
 /// Puts numbers, unless there are none, packed behind one tag and length.
-#[tactic(auto, using(crate::proofs::Begins::growing, schema_laws::proofs::Onto::long_onto, schema_laws::proofs::Growth::bytes_field_le, crate::proofs::Rows::left_out, crate::proofs::Rows::bytes_some))]
+#[tactic(auto, using(crate::proofs::Begins::growing, schema_laws::proofs::Onto::long_onto, schema_laws::proofs::Lengths::bytes_field_le, crate::proofs::Rows::left_out, crate::proofs::Rows::bytes_some))]
 pub fn put_numbers<N: Number>(
     out: &mut Blob,
     number: u32,
@@ -210,7 +211,7 @@ fn push_eights(out: &mut Blob, items: &[u64]) -> Result<(), NoMemory>
 }
 
 /// Puts eight-byte values, unless there are none, packed behind one tag and length.
-#[tactic(auto, using(crate::proofs::Begins::growing, schema_laws::proofs::Onto::long_onto, schema_laws::proofs::Growth::bytes_field_le, crate::proofs::Rows::left_out, crate::proofs::Rows::bytes_some, schema_laws::proofs::Fixed::fixed_len))]
+#[tactic(auto, using(crate::proofs::Begins::growing, schema_laws::proofs::Onto::long_onto, schema_laws::proofs::Lengths::bytes_field_le, crate::proofs::Rows::left_out, crate::proofs::Rows::bytes_some, schema_laws::proofs::Fixed::fixed_len))]
 pub fn put_fixed_list(out: &mut Blob, number: u32, items: &Repeated<u64>) -> Result<(), NoMemory>
     requires below { number < 2 ^ 29 }
     requires room { length (bytes_field number (fixed_text items.now)) < 2 ^ 63 }

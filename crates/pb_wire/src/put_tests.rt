@@ -116,7 +116,7 @@ fn packs_numbers(rt: HostRuntime) -> Result<(), Fail> {
 }
 
 #[test]
-#[tactic(auto, using(schema_laws::proofs::Growth::bytes_field_len, schema_laws::proofs::Fixed::fixed_len))]
+#[tactic(auto, using(schema_laws::proofs::Lengths::bytes_field_len, schema_laws::proofs::Fixed::fixed_len))]
 fn packs_eights(rt: HostRuntime) -> Result<(), Fail> {
     let mut times = Repeated::begin(rt.alloc());
     times.add(258u64)?;

@@ -2,7 +2,8 @@
 //! far. A payload whose wire type doesn't fit the row is skipped.
 ghost use Rattle.std.specs.Prelude.{◌≡◌, ◌<◌, ◌≤◌, ◌^◌, length, map, Ok};
 ghost use Rattle.schema.specs.Field.{bytes_of};
-ghost use Rattle.schema.specs.Merge.{one_number, one_fixed, one_bytes, one_text, text_of as text_at, take_one, take_many, more_packed, more_numbers, more_fixed, more_packed_fixed, more_bytes, more_texts, packed_reason as packed_reason_of, take_field};
+ghost use Rattle.schema.specs.Merge.{one_number, one_fixed, one_bytes, take_one, take_many, more_packed, more_numbers, more_fixed, more_packed_fixed, more_bytes, more_texts, packed_reason as packed_reason_of, take_field};
+ghost use Rattle.schema.specs.Run.{one_text, text_of as text_at};
 ghost use Rattle.schema.specs.Shape.{fits_one};
 ghost use Rattle.pb_wire.specs.Answers.{Reads, TakesNone, Took};
 ghost use Rattle.pb_wire.specs.RowTypes.{shape_of, RefusesOne, RefusesMany};

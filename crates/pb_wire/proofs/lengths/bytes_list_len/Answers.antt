@@ -1,5 +1,5 @@
 use Rattle.std.proofs.Common.{length, ap, arith}
-use Rattle.schema.specs.Spell.{long_field, items_text}
+use Rattle.schema.specs.Texts.{long_field, items_text}
 use Rattle.schema_laws.proofs.Onto.{long_len}
 use Rattle.pb_wire.proofs.Rows.{long_len_at, next_length, next_within}
 use Rattle.pb_wire.proofs.lengths.bytes_list_len.Goals as goal

@@ -1,6 +1,7 @@
 use Rattle.std.proofs.Common.{◌≡◌, length, map, ap, ◌∙◌, arith}
 use Rattle.std.specs.List.{flat_map}
-use Rattle.schema.specs.Spell.{long_field, items_text, spell}
+use Rattle.schema.specs.Texts.{long_field, items_text}
+use Rattle.schema.specs.Spell.{spell}
 use Rattle.std.proofs.lemmas.List.{take_all}
 use Rattle.pb_wire.proofs.Rows.{items_of, item_within, long_len_at, next_length, next_within}
 use Rattle.schema_laws.proofs.Onto.{onto_len}

@@ -1,6 +1,6 @@
 use Rattle.std.proofs.Common.{◌≡◌, length, take}
 use Rattle.std.specs.List.{flat_map}
-use Rattle.schema.specs.Spell.{varint, number_to}
+use Rattle.schema.specs.Texts.{varint, number_to}
 use Rattle.pb_wire.proofs.lengths.packed_len.Given as goal
 
 -- the length of the elements so far

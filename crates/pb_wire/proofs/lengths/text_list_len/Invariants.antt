@@ -1,5 +1,5 @@
 use Rattle.std.proofs.Common.{◌≡◌, length, take}
-use Rattle.schema.specs.Spell.{items_text}
+use Rattle.schema.specs.Texts.{items_text}
 use Rattle.pb_wire.proofs.lengths.text_list_len.Given as goal
 
 -- the length of the elements so far

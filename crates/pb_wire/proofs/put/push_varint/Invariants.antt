@@ -1,5 +1,5 @@
 use Rattle.std.proofs.Common.{◌≡◌, ◌++◌}
-use Rattle.schema.specs.Spell.{varint}
+use Rattle.schema.specs.Texts.{varint}
 use Rattle.pb_wire.specs.Answers.{Begins}
 use Rattle.pb_wire.proofs.put.push_varint.Given as goal
 

@@ -1,5 +1,5 @@
 use Rattle.std.proofs.Common.{◌≡◌, ◌++◌, take}
-use Rattle.schema.specs.Spell.{fixed_text}
+use Rattle.schema.specs.Texts.{fixed_text}
 use Rattle.pb_wire.specs.Answers.{Begins}
 use Rattle.pb_wire.proofs.put_rows.push_eights.Given as goal
 

@@ -1,7 +1,7 @@
 use Rattle.std.proofs.Common.{◌++◌, ℕ, List, sym, ap, ◌∙◌, arith}
 use Rattle.std.specs.List.{flat_map}
 use Rattle.std.proofs.lemmas.List.{take_all}
-use Rattle.schema.specs.Spell.{varint, number_to}
+use Rattle.schema.specs.Texts.{varint, number_to}
 use Rattle.pb_wire.proofs.Rows.{numbers_of}
 use Rattle.pb_wire.proofs.put_rows.push_packed.Goals as goal
 

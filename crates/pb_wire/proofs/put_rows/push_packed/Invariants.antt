@@ -1,6 +1,6 @@
 use Rattle.std.proofs.Common.{◌≡◌, ◌++◌, take}
 use Rattle.std.specs.List.{flat_map}
-use Rattle.schema.specs.Spell.{varint, number_to}
+use Rattle.schema.specs.Texts.{varint, number_to}
 use Rattle.pb_wire.specs.Answers.{Begins}
 use Rattle.pb_wire.proofs.put_rows.push_packed.Given as goal
 

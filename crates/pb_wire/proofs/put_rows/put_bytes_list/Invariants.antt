@@ -1,5 +1,5 @@
 use Rattle.std.proofs.Common.{◌≡◌, ◌++◌, take}
-use Rattle.schema.specs.Spell.{items_text}
+use Rattle.schema.specs.Texts.{items_text}
 use Rattle.pb_wire.specs.Answers.{Begins}
 use Rattle.pb_wire.proofs.put_rows.put_bytes_list.Given as goal
 

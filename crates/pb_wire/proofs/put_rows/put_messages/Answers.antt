@@ -1,7 +1,8 @@
 use Rattle.std.proofs.Common.{◌++◌, ℕ, List, sym, ap, ◌∙◌, arith}
 use Rattle.std.specs.List.{flat_map}
 use Rattle.std.proofs.lemmas.List.{take_all}
-use Rattle.schema.specs.Spell.{long_field, spell}
+use Rattle.schema.specs.Texts.{long_field}
+use Rattle.schema.specs.Spell.{spell}
 use Rattle.pb_wire.proofs.Rows.{items_of, item_within}
 use Rattle.pb_wire.proofs.put_rows.put_messages.Goals as goal
 

@@ -1,6 +1,7 @@
 use Rattle.std.proofs.Common.{◌≡◌, ◌++◌, take}
 use Rattle.std.specs.List.{flat_map}
-use Rattle.schema.specs.Spell.{long_field, spell}
+use Rattle.schema.specs.Texts.{long_field}
+use Rattle.schema.specs.Spell.{spell}
 use Rattle.pb_wire.specs.Answers.{Begins}
 use Rattle.pb_wire.proofs.put_rows.put_messages.Given as goal
 

@@ -1,5 +1,6 @@
 use Rattle.std.proofs.Common.{◌≡◌, ◌+◌, length}
-use Rattle.schema.specs.Merge.{take_field, merge, run}
+use Rattle.schema.specs.Merge.{take_field, merge}
+use Rattle.schema.specs.Run.{run}
 use Rattle.schema.specs.Steps.{trace}
 use Rattle.pb_wire.proofs.wire.Wire.merge.Given as goal
 
