@@ -14,6 +14,7 @@ mod reader_source;
 mod seeds;
 mod sink;
 mod source;
+mod system_seeds;
 mod writer_sink;
 
 pub use disk_files::DiskFiles;
@@ -27,6 +28,7 @@ pub use reader_source::ReaderSource;
 pub use seeds::{FixedSeeds, Seeds};
 pub use sink::{Sink, put_all};
 pub use source::Source;
+pub use system_seeds::{SystemHasher, SystemSeeds};
 pub use writer_sink::WriterSink;
 
 #[cfg(test)]

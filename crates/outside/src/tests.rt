@@ -1,9 +1,10 @@
 use super::*;
-use std::fs;
 use std::fs::File;
-use std::hash::{BuildHasher, BuildHasherDefault, FoldHasher};
+use std::hash::{BuildHasher, BuildHasherDefault, DefaultHasher, FoldHasher};
 use std::io::Cursor;
+use std::random::RandomSource;
 use std::test::Fail;
+use std::{fs, io};
 
 // What was found: the bytes, the number of a long file, or nothing.
 fn seen(got: &Got) -> Result<&[u8], Option<u64>> {
@@ -135,5 +136,42 @@ fn a_reader_is_read_to_its_end(rt: HostRuntime) -> Result<(), Fail> {
     let mut folder = ReaderSource::begin(File::open(&rt, "/dev")?);
     assert_eq!(rt; folder.read(&mut room), Err(Failed));
     assert_eq!(rt; folder.faults(), 1);
+    Ok(())
+}
+
+// A source of random bytes that always fails.
+struct NoRandom;
+
+impl RandomSource for NoRandom {
+    fn fill_bytes(&self, _buf: &mut [u8]) -> io::Result<()> {
+        Err(io::Error::from(io::ErrorKind::Other))
+    }
+}
+
+// A source of the same random bytes.
+struct Sevens;
+
+impl RandomSource for Sevens {
+    fn fill_bytes(&self, buf: &mut [u8]) -> io::Result<()> {
+        buf.fill(7);
+        Ok(())
+    }
+}
+
+#[test]
+fn hashers_of_one_seed_agree(rt: HostRuntime) -> Result<(), Fail> {
+    for mut seeds in [
+        SystemSeeds::begin(&rt),
+        SystemSeeds::begin(&Sevens),
+        SystemSeeds::begin(&NoRandom),
+    ] {
+        let first = seeds.hasher()?.hash_one(b"key".as_slice());
+        assert_eq!(rt; seeds.hasher()?.hash_one(b"key".as_slice()), first);
+    }
+    let fixed = BuildHasherDefault::<DefaultHasher>::new().hash_one(b"key".as_slice());
+    let hasher = SystemSeeds::begin(&NoRandom).hasher()?;
+    assert_eq!(rt; hasher.hash_one(b"key".as_slice()), fixed);
+    let seeded = SystemSeeds::begin(&Sevens).hasher()?;
+    assert_ne!(rt; seeded.hash_one(b"key".as_slice()), fixed);
     Ok(())
 }
