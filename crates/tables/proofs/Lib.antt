@@ -1,0 +1,3 @@
+mod Search
+pub mod Places
+pub mod Tables

@@ -1,0 +1,39 @@
+-- Lists of distinct keys, in the order in which the keys were first met, and the places of keys in a list. Places count
+-- from 0. Two keys are the same where they are equal as values.
+use Rattle.std.specs.Prelude.{◌≡◌, ◌<◌, ◌^◌, ℕ, List, [], ◌∷◌, ◌++◌, length, slice_get, Some, ◌⊎◌}
+
+-- the key stands at this place of the list
+abbrev pub StandsAt : {K : Type 0} → List K → K → ℕ → Type 0
+StandsAt keys key place = slice_get keys place ≡ Some key
+
+-- the key stands at no place of the list
+abbrev pub IsAbsent : {K : Type 0} → List K → K → Type 0
+IsAbsent keys key = (place : ℕ) → ¬ StandsAt keys key place
+
+-- the key stands at this place, and at none before it
+abbrev pub IsPlace : {K : Type 0} → List K → K → ℕ → Type 0
+IsPlace keys key place = StandsAt keys key place × ((before : ℕ) → before < place → ¬ StandsAt keys key before)
+
+-- no key stands at two places
+abbrev pub AreDistinct : {K : Type 0} → List K → Type 0
+AreDistinct {K} keys = (key : K) (i j : ℕ) → StandsAt keys key i → StandsAt keys key j → i ≡ j
+
+-- the key had this place, and the list is as before
+pub record IsFound {K : Type 0} (old : List K) (key : K) (new : List K) (place : ℕ) : Type 0 where
+  pub had : IsPlace old key place
+  pub same : new ≡ old
+
+-- the key stood nowhere, and now stands behind all others
+pub record IsAdded {K : Type 0} (old : List K) (key : K) (new : List K) (place : ℕ) : Type 0 where
+  pub absent : IsAbsent old key
+  pub last : place ≡ length old
+  pub grown : new ≡ old ++ key ∷ []
+
+-- what is answered for a key, and what the list becomes: its place where it has one, and else a new place at the end
+abbrev pub Interned : {K : Type 0} → List K → K → List K → ℕ → Type 0
+Interned old key new place = IsFound old key new place ⊎ IsAdded old key new place
+
+-- what a table keeps of its keys: they are distinct, and each place fits an index of the format
+pub record IsTable {K : Type 0} (keys : List K) : Type 0 where
+  pub distinct : AreDistinct keys
+  pub few : length keys < 2 ^ 31
