@@ -1,0 +1,68 @@
+//! A location of the dictionary.
+ghost use Rattle.std.specs.Prelude.{refl};
+ghost use Rattle.schema.specs.Messages.{location};
+ghost use Rattle.dict_rec.specs.Views.{location_view};
+
+use crate::Line;
+use pb_wire::{
+    Blob, Field, NoMemory, ReadFault, Repeated, Wire, add_message, add_number, messages_len,
+    number_len, numbers_len, put_messages, put_number, put_numbers, take_number,
+};
+use std::alloc::Global;
+
+/// A location of the dictionary: an address, and the lines of source that it stands for.
+#[derive(Debug, Drop)]
+pub struct Location {
+    /// The mapping that the address is in, an index into the mapping table.
+    pub mapping_index: i32,
+    pub address: u64,
+    /// The lines, of which those behind the first were inlined into it.
+    pub lines: Repeated<Line>,
+    /// Indexes into the attribute table.
+    pub attribute_indices: Repeated<i32>,
+}
+
+impl Wire for Location {
+    ghost shape = { location };
+
+    ghost view = { location_view };
+
+    ghost message = { tt };
+
+    ghost lawful = { refl };
+
+    fn none(alloc: Global) -> Location {
+        Location {
+            mapping_index: 0,
+            address: 0,
+            lines: Repeated::begin(alloc),
+            attribute_indices: Repeated::begin(alloc),
+        }
+    }
+
+    fn take(&mut self, alloc: Global, field: &Field<'_>) -> Result<(), ReadFault> {
+        match field.number {
+            1 => take_number(&mut self.mapping_index, field),
+            2 => take_number(&mut self.address, field),
+            3 => add_message(&mut self.lines, alloc, field),
+            4 => add_number(&mut self.attribute_indices, field),
+            _ => Ok(()),
+        }
+    }
+
+    fn rows_len(&self) -> u64 {
+        number_len(1, self.mapping_index)
+            + number_len(2, self.address)
+            + messages_len(3, &self.lines)
+            + numbers_len(4, &self.attribute_indices)
+    }
+
+    #[tactic(auto, using(pb_wire::proofs::Begins::growing))]
+    fn put_rows(&self, out: &mut Blob) -> Result<(), NoMemory> {
+        put_number(out, 1, self.mapping_index)?;
+        put_number(out, 2, self.address)?;
+        put_messages(out, 3, &self.lines)?;
+        put_numbers(out, 4, &self.attribute_indices)?;
+        Ok(())
+    }
+}

@@ -1,0 +1,98 @@
+//! A profile.
+ghost use Rattle.std.specs.Prelude.{refl};
+ghost use Rattle.schema.specs.Messages.{plain_profile};
+ghost use Rattle.prof_rec.specs.Views.{profile_view};
+
+use crate::ValueType;
+use pb_wire::{
+    Blob, Field, NoMemory, ReadFault, RowType, Text, Wire, bytes_len, fixed_len, message_len,
+    number_len, put_bytes, put_fixed, put_message, put_number, put_text, refuse_many, take_bytes,
+    take_fixed, take_message, take_number, take_text, text_len,
+};
+use std::alloc::Global;
+
+/// A profile. Its samples and its attributes are not read yet.
+#[derive(Debug, Drop)]
+pub struct Profile {
+    /// What the values of the samples are.
+    pub sample_type: ValueType,
+    /// When the profile began, in nanoseconds since 1970.
+    pub time_unix_nano: u64,
+    /// How long it took, in nanoseconds.
+    pub duration_nano: u64,
+    /// What the period is.
+    pub period_type: ValueType,
+    /// How many units lie between two samples.
+    pub period: i64,
+    pub profile_id: Blob,
+    pub dropped_attributes_count: u32,
+    pub original_payload_format: Text,
+    pub original_payload: Blob,
+}
+
+impl Wire for Profile {
+    ghost shape = { plain_profile };
+
+    ghost view = { profile_view };
+
+    ghost message = { tt };
+
+    ghost lawful = { refl };
+
+    fn none(alloc: Global) -> Profile {
+        Profile {
+            sample_type: ValueType::none(alloc),
+            time_unix_nano: 0,
+            duration_nano: 0,
+            period_type: ValueType::none(alloc),
+            period: 0,
+            profile_id: Blob::begin(alloc),
+            dropped_attributes_count: 0,
+            original_payload_format: Text::begin(alloc),
+            original_payload: Blob::begin(alloc),
+        }
+    }
+
+    fn take(&mut self, alloc: Global, field: &Field<'_>) -> Result<(), ReadFault> {
+        match field.number {
+            1 => take_message(&mut self.sample_type, alloc, field),
+            2 => refuse_many(RowType::Bytes, field),
+            3 => take_fixed(&mut self.time_unix_nano, field),
+            4 => take_number(&mut self.duration_nano, field),
+            5 => take_message(&mut self.period_type, alloc, field),
+            6 => take_number(&mut self.period, field),
+            7 => take_bytes(&mut self.profile_id, alloc, field),
+            8 => take_number(&mut self.dropped_attributes_count, field),
+            9 => take_text(&mut self.original_payload_format, alloc, field),
+            10 => take_bytes(&mut self.original_payload, alloc, field),
+            11 => refuse_many(RowType::Varint, field),
+            _ => Ok(()),
+        }
+    }
+
+    fn rows_len(&self) -> u64 {
+        message_len(1, &self.sample_type)
+            + fixed_len(3, self.time_unix_nano)
+            + number_len(4, self.duration_nano)
+            + message_len(5, &self.period_type)
+            + number_len(6, self.period)
+            + bytes_len(7, &self.profile_id)
+            + number_len(8, self.dropped_attributes_count)
+            + text_len(9, &self.original_payload_format)
+            + bytes_len(10, &self.original_payload)
+    }
+
+    #[tactic(auto, using(pb_wire::proofs::Begins::growing))]
+    fn put_rows(&self, out: &mut Blob) -> Result<(), NoMemory> {
+        put_message(out, 1, &self.sample_type)?;
+        put_fixed(out, 3, self.time_unix_nano)?;
+        put_number(out, 4, self.duration_nano)?;
+        put_message(out, 5, &self.period_type)?;
+        put_number(out, 6, self.period)?;
+        put_bytes(out, 7, &self.profile_id)?;
+        put_number(out, 8, self.dropped_attributes_count)?;
+        put_text(out, 9, &self.original_payload_format)?;
+        put_bytes(out, 10, &self.original_payload)?;
+        Ok(())
+    }
+}
