@@ -4,14 +4,16 @@ use Rattle.std.proofs.lemmas.List.{length-map}
 use Rattle.std.proofs.lemmas.List.Sums.{sum_by-cons}
 use Rattle.schema.specs.Messages.{resource_profiles, scope_profiles, plain_profile, dictionary, envelope}
 use Rattle.schema.specs.Shape.{Value}
-use Rattle.schema.specs.Spell.{spell, long_field, bytes_field, items_text}
-use Rattle.schema_laws.proofs.Onto.{long_len, varint_some}
-use Rattle.otlp_msg.specs.declared.profile.Profile.{Profile}
-use Rattle.otlp_msg.specs.declared.scope_profiles.ScopeProfiles.{ScopeProfiles}
-use Rattle.otlp_msg.specs.declared.resource_profiles.ResourceProfiles.{ResourceProfiles}
+use Rattle.schema.specs.Spell.{spell}
+use Rattle.schema.specs.Texts.{long_field, bytes_field, items_text}
+use Rattle.schema_laws.proofs.Onto.{long_len}
+use Rattle.prof_rec.specs.declared.profile.Profile.{Profile}
+use Rattle.prof_rec.specs.declared.scope_profiles.ScopeProfiles.{ScopeProfiles}
+use Rattle.prof_rec.specs.declared.resource_profiles.ResourceProfiles.{ResourceProfiles}
+use Rattle.otlp_msg.proofs.Places.{items_count}
 use Rattle.otlp_msg.specs.Counts.{scopes_count, resources_count}
 use Rattle.otlp_msg.specs.Message.{Message, records_of, profiles_in_scopes, profiles_of, samples_in_scopes, samples_in_profiles}
-use Rattle.otlp_msg.specs.Views.{profile_view, scope_profiles_view, resource_profiles_view}
+use Rattle.prof_rec.specs.Views.{profile_view, scope_profiles_view, resource_profiles_view}
 
 -- two sums are equal where their terms are
 sums_agree : {A B : Type 0} (f : A → ℕ) (g : B → ℕ) (view : B → A) → ((x : B) → f (view x) ≡ g x) → (xs : List B) → sum_by f (map view xs) ≡ sum_by g xs
@@ -50,16 +52,9 @@ elements_within n inner count h (x ∷ xs) =
     let t : length (items_text n (map inner (x ∷ xs))) ≡ length (long_field n (inner x)) + length (items_text n (map inner xs)) = length-append (long_field n (inner x)) (items_text n (map inner xs)) in
     omega (arith, long_len n (inner x))
 
-elements_spelled : {A : Type 0} (n : ℕ) (inner : A → List ℕ) (xs : List A) → length xs ≤ length (items_text n (map inner xs))
-elements_spelled n inner [] = omega arith
-elements_spelled n inner (x ∷ xs) =
-    let more = elements_spelled n inner xs in
-    let t : length (items_text n (map inner (x ∷ xs))) ≡ length (long_field n (inner x)) + length (items_text n (map inner xs)) = length-append (long_field n (inner x)) (items_text n (map inner xs)) in
-    omega (arith, long_len n (inner x), varint_some (length (inner x)))
-
 -- so there are no more profiles than bytes
 profiles_within : (s : Value scope_profiles) → length s.1.0 ≤ length (spell scope_profiles s)
-profiles_within s = omega (arith, elements_spelled 2 (spell plain_profile) s.1.0, length-append (items_text 2 (map (spell plain_profile) s.1.0)) [])
+profiles_within s = omega (arith, items_count 2 (spell plain_profile) s.1.0, length-append (items_text 2 (map (spell plain_profile) s.1.0)) [])
 
 scopes_within : (r : Value resource_profiles) → profiles_in_scopes r.1.0 ≤ length (spell resource_profiles r)
 scopes_within r =

@@ -1,3 +1,9 @@
 pub mod Accepted
 pub mod Counted
 pub mod Decided
+pub mod Inside
+pub mod InOrder
+pub mod Lengths
+pub mod Places
+pub mod Walked
+pub mod Zeros

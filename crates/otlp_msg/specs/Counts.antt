@@ -1,7 +1,7 @@
 -- How much there is in records of the code.
 use Rattle.std.specs.Prelude.{ℕ, List, length, sum_by}
-use Rattle.otlp_msg.specs.declared.scope_profiles.ScopeProfiles.{ScopeProfiles}
-use Rattle.otlp_msg.specs.declared.resource_profiles.ResourceProfiles.{ResourceProfiles}
+use Rattle.prof_rec.specs.declared.scope_profiles.ScopeProfiles.{ScopeProfiles}
+use Rattle.prof_rec.specs.declared.resource_profiles.ResourceProfiles.{ResourceProfiles}
 
 -- the profiles of some scopes, and of some resources
 abbrev pub scopes_count : List ScopeProfiles → ℕ

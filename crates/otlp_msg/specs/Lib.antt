@@ -1,5 +1,9 @@
 pub mod Views
 pub mod Texts
+pub mod Walk
+pub mod Within
+pub mod Lengths
+pub mod ZeroEntries
 pub mod Message
 pub mod Acceptance
 pub mod Checked

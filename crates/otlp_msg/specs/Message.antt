@@ -1,15 +1,18 @@
 -- What the bytes of a file say, or the first reason why they are refused.
-use Rattle.std.specs.Prelude.{◌≡◌, ℕ, List, [], ◌∷◌, length, sum_by, if◌then◌else◌, nat_lt, ◌==◌, Bool, true, Result, Ok, Err}
+use Rattle.std.specs.Prelude.{◌≡◌, ℕ, List, length, sum_by, if◌then◌else◌, nat_lt, Option, Some, None, Result, Ok, Err}
 use Rattle.schema.specs.Fault as faults
 use Rattle.schema.specs.Fault.{Fault}
 use Rattle.schema.specs.Merge.{merge}
 use Rattle.schema.specs.Messages.{envelope, resource_profiles, scope_profiles, plain_profile, dictionary}
 use Rattle.schema.specs.Shape.{Value, empty}
+use Rattle.schema.specs.Steps.{◌>>=◌}
 use Rattle.pb_wire.specs.declared.fault.Reason.{Reason}
 use Rattle.pb_wire.specs.declared.fault.Reason.TheVariants as reasons
-use Rattle.otlp_msg.specs.declared.dictionary.TableKind.TheVariants.{String}
+use Rattle.dict_rec.specs.declared.dictionary.TableKind.{TableKind}
 use Rattle.otlp_msg.specs.declared.refusal.Refusal.{Refusal}
-use Rattle.otlp_msg.specs.declared.refusal.Refusal.TheVariants.{Size, Wire, ZeroEntry, NotBuilt, NoMemory}
+use Rattle.otlp_msg.specs.declared.refusal.Refusal.TheVariants.{Size, Wire, ZeroEntry, Dangling, NotBuilt, NoMemory}
+use Rattle.otlp_msg.specs.Walk.{lengths_in, message_spots, within}
+use Rattle.otlp_msg.specs.ZeroEntries.{all_tables, first_other}
 
 -- a message: resource records, and the dictionary
 abbrev pub Message : Type 0
@@ -24,9 +27,6 @@ records_of m = m.0
 
 abbrev pub dictionary_of : Message → Value dictionary
 dictionary_of m = m.1.0
-
-abbrev pub strings_of : Value dictionary → List (List ℕ)
-strings_of d = d.1.1.1.1.0
 
 -- how many profiles, and how many samples, there are in some profiles, scopes and resources
 abbrev pub samples_in_profiles : List (Value plain_profile) → ℕ
@@ -44,11 +44,6 @@ profiles_of m = sum_by (λ r. profiles_in_scopes r.1.0) (records_of m)
 abbrev pub samples_of : Message → ℕ
 samples_of m = sum_by (λ r. samples_in_scopes r.1.0) (records_of m)
 
--- The first entry of a table that isn't empty is the zero value. Of the entries that are read only strings can be another.
-abbrev pub begins_with_zero : List (List ℕ) → Bool
-begins_with_zero [] = true
-begins_with_zero (text ∷ texts) = length text == 0
-
 -- the refusal of a fault at this place
 abbrev pub wire_refusal : ℕ → Reason → Refusal
 wire_refusal place reason = Wire (record { place = place; reason = reason })
@@ -63,13 +58,20 @@ refusal_at place faults.PackedLength = wire_refusal place reasons.PackedLength
 refusal_at place faults.TooDeep = wire_refusal place reasons.TooDeep
 refusal_at place faults.NotBuilt = NotBuilt place
 
--- the tests on what was read
+-- the tests on what was read: an index that is in no table, where each table begins with its zero entry
+abbrev pub with_indexes : Message → Result Message Refusal
+with_indexes m = within (lengths_in (dictionary_of m)) (message_spots m) >>= λ _. Ok m
+
+abbrev pub with_zeros : Option TableKind → Message → Result Message Refusal
+with_zeros (Some table) m = Err (ZeroEntry table)
+with_zeros None m = with_indexes m
+
 abbrev pub tested : Result Message Fault → Result Message Refusal
-tested (Ok m) = if begins_with_zero (strings_of (dictionary_of m)) then Ok m else Err (ZeroEntry String)
+tested (Ok m) = with_zeros (first_other (dictionary_of m) all_tables) m
 tested (Err f) = Err (refusal_at f.place f.reason)
 
--- The message that the bytes of a file are, or their refusal: their size, else their first fault, else a table whose first
--- entry isn't zero.
+-- The message that the bytes of a file are, or their refusal: their size, else their first fault, else the first table whose
+-- first entry isn't zero, else the first index of the walk that is in no table.
 abbrev pub message_of : List ℕ → Result Message Refusal
 message_of body = if nat_lt message_limit (length body) then Err (Size (length body)) else tested (merge envelope (empty envelope) 0 body)
 
@@ -78,5 +80,6 @@ abbrev pub IsRefusal : {T : Type 0} → Result T Refusal → Refusal → Type 0
 IsRefusal want (Size len) = want ≡ Err (Size len)
 IsRefusal want (Wire fault) = want ≡ Err (Wire fault)
 IsRefusal want (ZeroEntry table) = want ≡ Err (ZeroEntry table)
+IsRefusal want (Dangling table index len path) = want ≡ Err (Dangling table index len path)
 IsRefusal want (NotBuilt place) = want ≡ Err (NotBuilt place)
 IsRefusal want NoMemory = Unit {0}

@@ -16,12 +16,20 @@ pub struct Checked<'a> {
 }
 
 impl<'a> Checked<'a> {
-    ghost use Rattle.std.specs.Prelude.{◌^◌, length};
-    ghost use Rattle.schema.specs.Fits.{Fits};
+    ghost use Rattle.std.specs.Prelude.{◌^◌, length, map};
     ghost use Rattle.schema.specs.Messages.{envelope};
     ghost use Rattle.schema.specs.Spell.{spell};
     ghost use Rattle.otlp_msg.specs.Checked.{body_of, value_of};
-    ghost use Rattle.otlp_msg.specs.Message.{profiles_of, samples_of};
+    ghost use Rattle.otlp_msg.specs.Message.{dictionary_of, records_of, profiles_of, samples_of};
+    ghost use Rattle.schema.specs.Each.{Each};
+    ghost use Rattle.schema.specs.Fits.{Fits};
+    ghost use Rattle.schema.specs.Messages.{resource_profiles};
+    ghost use Rattle.schema.specs.Shape.{Table};
+    ghost use Rattle.meaning.specs.Canonical.{IsWithin};
+    ghost use Rattle.meaning.specs.Meaning.{HasZeros};
+    ghost use Rattle.meaning.specs.Message.{tables_in};
+    ghost use Rattle.meaning.specs.Tables.{entry};
+    ghost use Rattle.meaning.specs.Tree.{tree};
 
     /// The bytes that the message was read from. It takes no memory.
     pub fn body(&self) -> &[u8]
@@ -30,11 +38,15 @@ impl<'a> Checked<'a> {
         self.body
     }
 
-    /// The message. It takes no memory. Its spelling is short enough to be written, and it fits, so its spelling is read as it.
+    /// The message. It takes no memory. Its spelling is short enough to be written, and it fits, so its spelling is read as
+    /// it. Each table begins with its zero entry, and each index, of an entry or of a record, is in its table.
     pub fn message(&self) -> &Message
         ensures value { message_view result.now ≡ value_of self.now }
         ensures short { length (spell envelope (value_of self.now)) < 2 ^ 62 }
         ensures fits { Fits envelope (value_of self.now) }
+        ensures zeros { HasZeros (tables_in (dictionary_of (value_of self.now))) }
+        ensures entries { (T : Table) → let d = tables_in (dictionary_of (value_of self.now)) in Each (IsWithin d (entry T)) (d T) }
+        ensures records { let d = tables_in (dictionary_of (value_of self.now)) in Each (IsWithin d resource_profiles) (map (tree resource_profiles) (records_of (value_of self.now))) }
     {
         &self.message
     }

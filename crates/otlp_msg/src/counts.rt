@@ -2,7 +2,7 @@
 ghost use Rattle.std.specs.Prelude.{◌≡◌, ◌<◌, ◌^◌, length, sum_by};
 ghost use Rattle.otlp_msg.specs.Counts.{scopes_count, resources_count};
 
-use crate::{ResourceProfiles, ScopeProfiles};
+use prof_rec::{ResourceProfiles, ScopeProfiles};
 
 /// The number of profiles of some resources.
 pub fn profiles_in_resources(records: &[ResourceProfiles]) -> u64

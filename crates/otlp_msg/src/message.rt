@@ -3,11 +3,12 @@ ghost use Rattle.std.specs.Prelude.{refl};
 ghost use Rattle.schema.specs.Messages.{envelope};
 ghost use Rattle.otlp_msg.specs.Views.{message_view};
 
-use crate::{Dictionary, ResourceList, ResourceProfiles};
+use dict_rec::Dictionary;
 use pb_wire::{
     Blob, Field, NoMemory, ReadFault, Repeated, Wire, add_message, message_len, messages_len,
     put_message, put_messages, take_message,
 };
+use prof_rec::{ResourceList, ResourceProfiles};
 use std::alloc::Global;
 
 /// A message: its resource records, and the dictionary that they share.

@@ -1,18 +1,20 @@
 //! Reading a message.
 ghost use Rattle.std.specs.Prelude.{◌≡◌, Ok, IfOk, IfErr};
 ghost use Rattle.otlp_msg.specs.Checked.{body_of, value_of};
-ghost use Rattle.otlp_msg.specs.Message.{IsRefusal, message_of, begins_with_zero as begins_with_zero_of};
+ghost use Rattle.otlp_msg.specs.Message.{IsRefusal, message_of};
 ghost use Rattle.otlp_msg.specs.Refusals.{refusal_of as refusal_of_fault};
 
-use crate::{Checked, Message, Refusal, TableKind};
-use pb_wire::{ReadFault, Repeated, Text, Wire};
+use crate::indexed_records::indexes_within;
+use crate::zero_entries::first_other_zero;
+use crate::{Checked, Message, Refusal};
+use pb_wire::{ReadFault, Wire};
 use std::alloc::Global;
 
 /// The greatest number of bytes of a message that is read or written.
 pub const MESSAGE_LIMIT: u64 = 33_554_432;
 
 /// The message that the bytes of a file are, or the first reason why they are none: their size, then their first fault, then
-/// a table whose first entry isn't the zero value.
+/// the first table whose first entry isn't the zero value, then the first index of the walk that is in no table.
 pub fn read_message<'a>(alloc: Global, body: &'a [u8]) -> Result<Checked<'a>, Refusal>
     ensures body { IfOk result (λ c. body_of c ≡ body.now) }
     ensures ok { IfOk result (λ c. message_of body.now ≡ Ok (value_of c)) }
@@ -27,10 +29,11 @@ pub fn read_message<'a>(alloc: Global, body: &'a [u8]) -> Result<Checked<'a>, Re
     if let Err(fault) = message.merge(alloc, body, 0) {
         return Err(refusal_of(fault));
     }
-    if !begins_with_zero(&message.dictionary.string_table) {
-        return Err(Refusal::ZeroEntry {
-            table: TableKind::String,
-        });
+    if let Some(table) = first_other_zero(&message.dictionary) {
+        return Err(Refusal::ZeroEntry { table });
+    }
+    if let Err(refusal) = indexes_within(&message) {
+        return Err(refusal);
     }
     Ok(Checked { body, message })
 }
@@ -43,15 +46,5 @@ fn refusal_of(fault: ReadFault) -> Refusal
         ReadFault::Wire(fault) => Refusal::Wire(fault),
         ReadFault::NotBuilt { place } => Refusal::NotBuilt { place },
         ReadFault::NoMemory => Refusal::NoMemory,
-    }
-}
-
-// Whether the first string, if there is one, is empty.
-fn begins_with_zero(strings: &Repeated<Text>) -> bool
-    ensures { result ≡ begins_with_zero_of strings.now }
-{
-    match strings.get(0) {
-        Some(first) => first.as_str().is_empty(),
-        None => true,
     }
 }

@@ -1,8 +1,7 @@
 //! What is read and refused, against bytes that were worked out by hand from the Protocol Buffers encoding guide and the
 //! schema.
-ghost use Rattle.std.specs.Prelude.{◌<◌, ◌^◌, length};
-
 use super::*;
+use dict_rec::TableKind;
 use pb_wire::{Blob, Piece, Pieces, Reason, Wire, WireFault};
 use std::alloc::Global;
 use std::process::Abort;
@@ -31,6 +30,15 @@ fn refuses(rt: HostRuntime) -> Result<(), Fail> {
             b"\x12\x0a\xff\xff\xff\xff\xff\xff\xff\xff\xff\x02",
             "wire fault VarintLong at 2",
         ),
+        // A packed list whose number is cut off by its end, and one with a number of ten bytes whose last is 2.
+        (
+            b"\x12\x05\x3a\x03\x0a\x01\x80",
+            "wire fault PackedLength at 4",
+        ),
+        (
+            b"\x12\x0e\x3a\x0c\x0a\x0a\xff\xff\xff\xff\xff\xff\xff\xff\xff\x02",
+            "wire fault VarintLong at 4",
+        ),
         // The field numbers 0 and 536,870,912, and the wire type 3.
         (b"\x12\x00\x02\x00", "wire fault FieldNumber at 2"),
         (b"\x80\x80\x80\x80\x10\x00", "wire fault FieldNumber at 0"),
@@ -39,15 +47,160 @@ fn refuses(rt: HostRuntime) -> Result<(), Fail> {
         // The first fault counts, and a fault before an entry that isn't zero.
         (b"\x0a\x02\x12\x05\x0b", "wire fault Truncated at 2"),
         (b"\x12\x03\x2a\x01x\x0b", "wire fault WireType at 5"),
+        // A fault before an index that is in no table.
         (
-            b"\x12\x03\x2a\x01x",
-            "zero entry of string table is not zero",
+            b"\x12\x06\x12\x00\x12\x02\x08\x05\x0b",
+            "wire fault WireType at 8",
         ),
-        // A profile's sample type, and a mapping's beginning and end.
-        (b"\x0a\x06\x12\x04\x12\x02\x0a\x00", "not built at 6"),
-        (b"\x12\x06\x0a\x04\x08\x05\x10\x06", "not built at 4"),
+        // A profile's samples, an attribute's value, and a resource.
+        (b"\x0a\x06\x12\x04\x12\x02\x12\x00", "not built at 6"),
+        (b"\x12\x04\x32\x02\x12\x00", "not built at 4"),
+        (b"\x0a\x02\x0a\x00", "not built at 2"),
     ] {
         assert_refused(&rt, alloc, body, want)?;
+    }
+    Ok(())
+}
+
+// A first entry that isn't zero, in each table: a field that isn't its default, also where it is an index, an empty line,
+// one byte of an identifier, and a list of one index 0.
+#[test]
+fn refuses_zero_entries(rt: HostRuntime) -> Result<(), Fail> {
+    let alloc = rt.alloc();
+    for (body, table) in [
+        (b"\x12\x04\x0a\x02\x10\x06".as_slice(), "mapping"),
+        (b"\x12\x04\x12\x02\x1a\x00", "location"),
+        (b"\x12\x04\x1a\x02\x20\x01", "function"),
+        (b"\x12\x05\x22\x03\x0a\x01\x00", "link"),
+        (b"\x12\x03\x2a\x01x", "string"),
+        (b"\x12\x04\x32\x02\x08\x01", "attribute"),
+        (b"\x12\x04\x3a\x02\x08\x00", "stack"),
+        // The first in the order of the fields' numbers.
+        (b"\x12\x08\x3a\x02\x08\x00\x0a\x02\x10\x06", "mapping"),
+        // Before an index that is in no table, of a record and of an earlier table.
+        (
+            b"\x0a\x08\x12\x06\x12\x04\x0a\x02\x08\x09\x12\x03\x2a\x01x",
+            "string",
+        ),
+        (b"\x12\x0a\x12\x00\x12\x02\x08\x05\x3a\x02\x08\x00", "stack"),
+    ] {
+        let want = format!(in alloc; "zero entry of {table} table is not zero")?;
+        assert_refused(&rt, alloc, body, want.as_str())?;
+    }
+    Ok(())
+}
+
+// An index that is in no table. A table that is absent or empty has the length 1.
+#[test]
+fn refuses_indexes(rt: HostRuntime) -> Result<(), Fail> {
+    let alloc = rt.alloc();
+    for (body, want) in [
+        // A mapping's file name, and its attributes: packed, and each by itself in a table of two.
+        (
+            b"\x12\x06\x0a\x00\x0a\x02\x20\x03".as_slice(),
+            "string index 3 of 1 in mapping 1 field 4 item 0",
+        ),
+        (
+            b"\x12\x08\x0a\x00\x0a\x04\x2a\x02\x00\x01",
+            "attribute index 1 of 1 in mapping 1 field 5 item 1",
+        ),
+        (
+            b"\x12\x0e\x0a\x00\x0a\x06\x28\x00\x28\x00\x28\x02\x32\x00\x32\x00",
+            "attribute index 2 of 2 in mapping 1 field 5 item 2",
+        ),
+        // A location's mapping, also below 0, its attributes, and the function of its second line.
+        (
+            b"\x12\x06\x12\x00\x12\x02\x08\x05",
+            "mapping index 5 of 1 in location 1 field 1 item 0",
+        ),
+        (
+            b"\x12\x0f\x12\x00\x12\x0b\x08\xff\xff\xff\xff\xff\xff\xff\xff\xff\x01",
+            "mapping index -1 of 1 in location 1 field 1 item 0",
+        ),
+        (
+            b"\x12\x09\x12\x00\x12\x05\x22\x03\x00\x00\x07",
+            "attribute index 7 of 1 in location 1 field 4 item 2",
+        ),
+        (
+            b"\x12\x0a\x12\x00\x12\x06\x1a\x00\x1a\x02\x08\x01",
+            "function index 1 of 1 in line 1 of location 1 field 1 item 0",
+        ),
+        // A function's three strings: -1 in five bytes, 1, and the least number of 32 bits.
+        (
+            b"\x12\x0a\x1a\x00\x1a\x06\x08\xff\xff\xff\xff\x0f",
+            "string index -1 of 1 in function 1 field 1 item 0",
+        ),
+        (
+            b"\x12\x06\x1a\x00\x1a\x02\x10\x01",
+            "string index 1 of 1 in function 1 field 2 item 0",
+        ),
+        (
+            b"\x12\x0f\x1a\x00\x1a\x0b\x18\x80\x80\x80\x80\xf8\xff\xff\xff\xff\x01",
+            "string index -2147483648 of 1 in function 1 field 3 item 0",
+        ),
+        // An attribute's key in a table of two, and its unit.
+        (
+            b"\x12\x0b\x2a\x00\x2a\x01x\x32\x00\x32\x02\x08\x02",
+            "string index 2 of 2 in attribute 1 field 1 item 0",
+        ),
+        (
+            b"\x12\x06\x32\x00\x32\x02\x18\x01",
+            "string index 1 of 1 in attribute 1 field 3 item 0",
+        ),
+        // A stack's locations, packed, and each by itself in a table of the zero entry alone.
+        (
+            b"\x12\x09\x3a\x00\x3a\x05\x0a\x03\x00\x00\x05",
+            "location index 5 of 1 in stack 1 field 1 item 2",
+        ),
+        (
+            b"\x12\x0a\x12\x00\x3a\x00\x3a\x04\x08\x00\x08\x01",
+            "location index 1 of 1 in stack 1 field 1 item 1",
+        ),
+        // The unit of a sample type, in a table of four.
+        (
+            b"\x0a\x13\x12\x11\x12\x0f\x0a\x0d\x08\x02\x10\xff\xff\xff\xff\xff\xff\xff\xff\xff\x01\
+            \x12\x10\x2a\x00\x2a\x03cpu\x2a\x03cpu\x2a\x02ns",
+            "string index -1 of 4 in profile 0/0/0 sample type field 2 item 0",
+        ),
+        (
+            b"\x0a\x0a\x12\x08\x12\x06\x0a\x04\x08\x02\x10\x04\
+            \x12\x10\x2a\x00\x2a\x03cpu\x2a\x03cpu\x2a\x02ns",
+            "string index 4 of 4 in profile 0/0/0 sample type field 2 item 0",
+        ),
+        // A period type without a dictionary, and that of the second profile of the second scope of the second resource.
+        (
+            b"\x0a\x08\x12\x06\x12\x04\x2a\x02\x08\x01",
+            "string index 1 of 1 in profile 0/0/0 period type field 1 item 0",
+        ),
+        (
+            b"\x0a\x00\x0a\x0c\x12\x00\x12\x08\x12\x00\x12\x04\x2a\x02\x10\x03",
+            "string index 3 of 1 in profile 1/1/1 period type field 2 item 0",
+        ),
+        // The tables come before the records, and of them the first in the order of the fields' numbers.
+        (
+            b"\x0a\x08\x12\x06\x12\x04\x0a\x02\x08\x09\x12\x06\x12\x00\x12\x02\x08\x05",
+            "mapping index 5 of 1 in location 1 field 1 item 0",
+        ),
+        (
+            b"\x12\x0c\x3a\x00\x3a\x02\x08\x05\x0a\x00\x0a\x02\x20\x03",
+            "string index 3 of 1 in mapping 1 field 4 item 0",
+        ),
+        // Of an entry and of a profile the first field, with the lines as field 3.
+        (
+            b"\x12\x08\x1a\x00\x1a\x04\x18\x07\x08\x09",
+            "string index 9 of 1 in function 1 field 1 item 0",
+        ),
+        (
+            b"\x12\x0b\x12\x00\x12\x07\x22\x01\x05\x1a\x02\x08\x06",
+            "function index 6 of 1 in line 0 of location 1 field 1 item 0",
+        ),
+        (
+            b"\x0a\x0c\x12\x0a\x12\x08\x2a\x02\x08\x04\x0a\x02\x08\x05",
+            "string index 5 of 1 in profile 0/0/0 sample type field 1 item 0",
+        ),
+    ] {
+        let want = format!(in alloc; "dangling {want}")?;
+        assert_refused(&rt, alloc, body, want.as_str())?;
     }
     Ok(())
 }
@@ -67,7 +220,16 @@ fn refuses_a_long_file(rt: HostRuntime) -> Result<(), Fail> {
 fn says_why(rt: HostRuntime) -> Result<(), Fail> {
     let alloc = rt.alloc();
     let at = |place, reason| Refusal::Wire(WireFault { place, reason });
-    let zero = |table| Refusal::ZeroEntry { table };
+    let pos = ProfilePos {
+        resource: 1,
+        scope: u32::MAX,
+        profile: 30,
+    };
+    let sample = |field, item| Path {
+        holder: Holder::Sample { pos, sample: 4 },
+        field,
+        item,
+    };
     for (refusal, want) in [
         (
             at(u64::MAX, Reason::PackedLength),
@@ -75,28 +237,35 @@ fn says_why(rt: HostRuntime) -> Result<(), Fail> {
         ),
         (at(1000, Reason::TooDeep), "wire fault TooDeep at 1000"),
         (
-            zero(TableKind::Mapping),
-            "zero entry of mapping table is not zero",
+            Refusal::Dangling {
+                table: TableKind::Stack,
+                index: i32::MIN,
+                len: u64::MAX,
+                path: sample(1, 0),
+            },
+            "dangling stack index -2147483648 of 18446744073709551615 in profile 1/4294967295/30 sample 4 field 1 item 0",
         ),
         (
-            zero(TableKind::Location),
-            "zero entry of location table is not zero",
+            Refusal::Dangling {
+                table: TableKind::Link,
+                index: i32::MAX,
+                len: 7,
+                path: sample(4, 0),
+            },
+            "dangling link index 2147483647 of 7 in profile 1/4294967295/30 sample 4 field 4 item 0",
         ),
         (
-            zero(TableKind::Function),
-            "zero entry of function table is not zero",
-        ),
-        (
-            zero(TableKind::Link),
-            "zero entry of link table is not zero",
-        ),
-        (
-            zero(TableKind::Attribute),
-            "zero entry of attribute table is not zero",
-        ),
-        (
-            zero(TableKind::Stack),
-            "zero entry of stack table is not zero",
+            Refusal::Dangling {
+                table: TableKind::Attribute,
+                index: 2,
+                len: 2,
+                path: Path {
+                    holder: Holder::Profile { pos },
+                    field: 11,
+                    item: 12,
+                },
+            },
+            "dangling attribute index 2 of 2 in profile 1/4294967295/30 field 11 item 12",
         ),
         (Refusal::NoMemory, "no memory"),
     ] {
@@ -143,6 +312,23 @@ fn accepts(rt: HostRuntime) -> Result<(), Fail> {
             b"\x0a\x00\x12\x04\x0a\x00\x3a\x00",
             0,
         ),
+        // A zero entry whose fields hold their defaults, and the index 0 into a table that is absent.
+        (
+            b"\x12\x0a\x0a\x04\x10\x00\x20\x00\x12\x02\x08\x00",
+            b"\x12\x04\x0a\x00\x12\x00",
+            0,
+        ),
+        // The last index of a table, in a sample type, in a line and in a stack.
+        (
+            b"\x0a\x0a\x12\x08\x12\x06\x0a\x04\x08\x02\x10\x03\x12\x10\x2a\x00\x2a\x03cpu\x2a\x03cpu\x2a\x02ns",
+            b"\x0a\x0a\x12\x08\x12\x06\x0a\x04\x08\x02\x10\x03\x12\x10\x2a\x00\x2a\x03cpu\x2a\x03cpu\x2a\x02ns",
+            1,
+        ),
+        (
+            b"\x12\x13\x3a\x00\x3a\x03\x0a\x01\x01\x12\x00\x12\x04\x1a\x02\x08\x01\x1a\x00\x1a\x00",
+            b"\x12\x13\x12\x00\x12\x04\x1a\x02\x08\x01\x1a\x00\x1a\x00\x3a\x00\x3a\x03\x0a\x01\x01",
+            0,
+        ),
         // Two resources: a scope of one profile and a scope of two, and a scope of none.
         (
             b"\x0a\x0a\x12\x02\x12\x00\x12\x04\x12\x00\x12\x00\x0a\x02\x12\x00",
@@ -176,45 +362,5 @@ fn joins_pieces(rt: HostRuntime) -> Result<(), Fail> {
     let message = Message::read(alloc, &pieces)?;
     assert_eq!(rt; message.records.len(), 1);
     assert_eq!(rt; message.dictionary.string_table.len(), 2);
-    Ok(())
-}
-
-// The canonical bytes of the record that these bytes are.
-fn rewritten<T: Wire>(alloc: Global, bytes: &[u8]) -> Result<Blob, Fail>
-    requires { length bytes.now < 2 ^ 32 }
-{
-    let mut record = T::none(alloc);
-    record.merge(alloc, bytes, 0)?;
-    let mut out = Blob::begin(alloc);
-    record.write(&mut out)?;
-    Ok(out)
-}
-
-#[test]
-fn rewrites_records(rt: HostRuntime) -> Result<(), Fail> {
-    let alloc = rt.alloc();
-    // An unknown field alone: no row of these is read yet.
-    let unknown = b"\x78\x01";
-    for out in [
-        rewritten::<Mapping>(alloc, unknown)?,
-        rewritten::<Location>(alloc, unknown)?,
-        rewritten::<Function>(alloc, unknown)?,
-        rewritten::<Link>(alloc, unknown)?,
-        rewritten::<Attr>(alloc, unknown)?,
-        rewritten::<Stack>(alloc, unknown)?,
-        rewritten::<Profile>(alloc, unknown)?,
-    ] {
-        assert!(rt; out.is_empty());
-    }
-    let scope = b"\x12\x00\x12\x00".as_slice();
-    assert_eq!(rt; rewritten::<ScopeProfiles>(alloc, scope)?.as_slice(), scope);
-    let resource = b"\x12\x02\x12\x00\x12\x00".as_slice();
-    assert_eq!(rt;
-        rewritten::<ResourceProfiles>(alloc, resource)?.as_slice(),
-        resource
-    );
-    let tables =
-        b"\x0a\x00\x0a\x00\x12\x00\x1a\x00\x22\x00\x2a\x00\x2a\x01x\x32\x00\x3a\x00".as_slice();
-    assert_eq!(rt; rewritten::<Dictionary>(alloc, tables)?.as_slice(), tables);
     Ok(())
 }
