@@ -1,0 +1,21 @@
+//! Why no message is built.
+use pb_wire::NoMemory;
+
+/// Why no message is built.
+#[derive(Clone, Copy, Debug, PartialEq, Eq)]
+pub enum BuildFault {
+    /// There would be more bytes than a message may have; `size` is their number.
+    OutputLimit { size: u64 },
+    NoMemory,
+}
+
+impl From<NoMemory> for BuildFault {
+    ghost use Rattle.std.specs.Prelude.{◌≡◌};
+    ghost use Rattle.dict_build.specs.declared.fault.BuildFault.TheVariants as fault;
+
+    ghost from_gives = { λ _ f. f ≡ fault.NoMemory };
+
+    fn from(_: NoMemory) -> BuildFault {
+        BuildFault::NoMemory
+    }
+}

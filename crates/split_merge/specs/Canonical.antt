@@ -1,0 +1,51 @@
+-- The canonical bytes of a message, and what is known of them.
+use Rattle.std.specs.Prelude.{◌≡◌, ℕ, List, length, if◌then◌else◌, nat_lt, Result, Ok, Err}
+use Rattle.schema.specs.Each.{Each}
+use Rattle.schema.specs.Fits.{Fits}
+use Rattle.schema.specs.Messages.{resource_profiles, envelope}
+use Rattle.meaning.specs.Meaning.{IsMeaning}
+use Rattle.meaning.specs.Message.{meaning_of, canonical_value, meaning_text}
+use Rattle.meaning.specs.Tree.{Tree}
+use Rattle.otlp_msg.specs.Message.{Message, message_limit, message_of}
+use Rattle.dict_build.specs.declared.fault.BuildFault.{BuildFault}
+use Rattle.dict_build.specs.declared.fault.BuildFault.TheVariants.{OutputLimit, NoMemory}
+
+-- a meaning: resource records, in which each index is replaced by the value of its entry
+abbrev pub Meaning : Type 0
+Meaning = List Tree
+
+-- the meaning of a message
+abbrev pub meaning : Message → Meaning
+meaning m = meaning_of resource_profiles m
+
+-- the canonical bytes of a meaning
+unfoldable pub canonical_bytes : Meaning → List ℕ
+canonical_bytes ms = meaning_text resource_profiles ms
+
+-- bytes, or their number where there are too many
+abbrev pub within_limit : List ℕ → Result (List ℕ) BuildFault
+within_limit bytes = if nat_lt message_limit (length bytes) then Err (OutputLimit (length bytes)) else Ok bytes
+
+-- the canonical bytes of a message, or their number
+abbrev pub canon_of : Message → Result (List ℕ) BuildFault
+canon_of m = within_limit (canonical_bytes (meaning m))
+
+-- the fault is the one that is wanted, or memory was wanting
+abbrev pub IsBuildFault : {T : Type 0} → Result T BuildFault → BuildFault → Type 0
+IsBuildFault want (OutputLimit size) = want ≡ Err (OutputLimit size)
+IsBuildFault want NoMemory = Unit {0}
+
+-- the bytes are accepted as a message with this meaning
+pub record IsAcceptedAs (bytes : List ℕ) (ms : Meaning) : Type 0 where
+  pub message : Message
+  pub accepted : message_of bytes ≡ Ok message
+  pub same : meaning message ≡ ms
+
+-- a meaning whose canonical message can be written
+pub record CanBeWritten (ms : Meaning) : Type 0 where
+  pub means : Each (IsMeaning resource_profiles) ms
+  pub fits : Fits envelope (canonical_value resource_profiles ms)
+
+-- the bytes are the canonical ones of this meaning alone
+abbrev pub IsOnlyOf : List ℕ → Meaning → Type 0
+IsOnlyOf bytes ms = (ns : Meaning) → CanBeWritten ns → canonical_bytes ns ≡ bytes → ns ≡ ms
