@@ -2,13 +2,13 @@
 use Rattle.std.specs.Prelude.{ℕ, List, Result, Ok, Err}
 use Rattle.outside.specs.FileMap.{FileMap}
 use Rattle.otlp_msg.specs.Message.{Message, message_of}
-use Rattle.collector.specs.declared.canonical.BuildFault.{BuildFault}
-use Rattle.collector.specs.declared.canonical.BuildFault.TheVariants as build
+use Rattle.dict_build.specs.declared.fault.BuildFault.{BuildFault}
+use Rattle.dict_build.specs.declared.fault.BuildFault.TheVariants as build
+use Rattle.split_merge.specs.Canonical.{canon_of}
 use Rattle.collector.specs.declared.output.Output.{Output}
 use Rattle.collector.specs.declared.stop.ToolRefusal.TheVariants.{Limit}
 use Rattle.collector.specs.declared.stop.Stop.{Stop}
 use Rattle.collector.specs.declared.stop.Stop.TheVariants.{Refused, NoMemory}
-use Rattle.collector.specs.Canonical.{canon_of}
 use Rattle.collector.specs.Messages.{after, accepted, bytes_at}
 use Rattle.collector.specs.Outputs.{one_file}
 

@@ -2,8 +2,8 @@ pub mod Plan
 pub mod Lines
 pub mod Outputs
 pub mod Messages
-pub mod Canonical
 pub mod CanonAnswer
 pub mod Answer
+pub mod Rebuilt
 pub mod Causes
 pub mod Delivery

@@ -5,24 +5,29 @@ ghost use Rattle.collector.specs.CanonAnswer.{canon_answer, canon_in, canon_file
 ghost use Rattle.collector.specs.Causes.{IsStop, ReadCause, IsOfInput, IsNoFault};
 ghost use Rattle.collector.specs.Delivery.{names_of};
 ghost use Rattle.collector.specs.Outputs.{one_file};
+ghost use Rattle.collector.specs.Rebuilt.{IsRebuilt, IsRebuiltAt, IsRebuiltFrom};
 
 use crate::lines::wrote_line;
 use crate::reading::{checked_message, read_bytes};
-use crate::{BuildFault, Output, Stop, ToolRefusal, Writes, canon};
+use crate::{Output, Stop, ToolRefusal, Writes};
+use dict_build::BuildFault;
 use otlp_msg::Checked;
-use outside::Files;
+use outside::{Files, Seeds};
 use pb_wire::{Blob, NoMemory, Text};
+use split_merge::canon;
 use std::alloc::Global;
 
 /// What `canon IN OUT` writes.
-pub fn perform_canon<F: Files>(
+pub fn perform_canon<F: Files, M: Seeds>(
     alloc: Global,
     file: &Text,
     target: &Text,
     files: &mut F,
+    seeds: &mut M,
 ) -> Result<Output, Stop>
     ensures ok { IfOk result (λ output. IfSome (F.told files.old) (λ m. canon_answer m file.now target.now ≡ Ok output)) }
     ensures stopped { IfErr result (λ stop. IfSome (F.told files.old) (λ m. IsStop (canon_answer m file.now target.now) stop)) }
+    ensures rebuilt { IfOk result (λ output. IfSome (F.told files.old) (λ m. IsRebuiltAt m file.now target.now output)) }
     ensures targets { IfOk result (λ output. names_of output.files ≡ target.now ∷ []) }
     ensures same { F.told files.new ≡ F.told files.old }
     ensures cause { IfErr result (ReadCause (file.now ∷ []) (F.faults files.old) (F.faults files.new)) }
@@ -30,32 +35,45 @@ pub fn perform_canon<F: Files>(
     ensures sound { F.sound files.old → F.sound files.new × IfErr result IsNoFault }
 {
     match read_bytes(alloc, file, files) {
-        Ok(body) => canon_in(alloc, file, body.as_slice(), target),
+        Ok(body) => canon_in(alloc, file, body.as_slice(), target, seeds),
         Err(stop) => Err(stop),
     }
 }
 
 // The same from the bytes of the file.
-fn canon_in(alloc: Global, file: &Text, body: &[u8], target: &Text) -> Result<Output, Stop>
+fn canon_in<M: Seeds>(
+    alloc: Global,
+    file: &Text,
+    body: &[u8],
+    target: &Text,
+    seeds: &mut M,
+) -> Result<Output, Stop>
     ensures ok { IfOk result (λ output. canon_in file.now target.now body.now ≡ Ok output) }
     ensures stopped { IfErr result (IsStop (canon_in file.now target.now body.now)) }
+    ensures rebuilt { IfOk result (IsRebuiltFrom body.now target.now) }
     ensures targets { IfOk result (λ output. names_of output.files ≡ target.now ∷ []) }
     ensures cause { IfErr result IsOfInput }
 {
     match checked_message(alloc, file, body) {
-        Ok(message) => canon_file(alloc, target, &message),
+        Ok(message) => canon_file(alloc, target, &message, seeds),
         Err(stop) => Err(stop),
     }
 }
 
 // The canonical bytes of a message, as one file.
-fn canon_file(alloc: Global, target: &Text, message: &Checked<'_>) -> Result<Output, Stop>
+fn canon_file<M: Seeds>(
+    alloc: Global,
+    target: &Text,
+    message: &Checked<'_>,
+    seeds: &mut M,
+) -> Result<Output, Stop>
     ensures ok { IfOk result (λ output. canon_file target.now (value_of message.now) ≡ Ok output) }
     ensures stopped { IfErr result (IsStop (canon_file target.now (value_of message.now))) }
+    ensures rebuilt { IfOk result (IsRebuilt (value_of message.now) target.now) }
     ensures targets { IfOk result (λ output. names_of output.files ≡ target.now ∷ []) }
     ensures cause { IfErr result IsOfInput }
 {
-    match canon(alloc, message) {
+    match canon(alloc, message, seeds) {
         Ok(bytes) => Ok(output_of_one(alloc, target, bytes)?),
         Err(BuildFault::OutputLimit { size }) => Err(Stop::Refused(ToolRefusal::Limit { size })),
         Err(BuildFault::NoMemory) => Err(Stop::NoMemory),

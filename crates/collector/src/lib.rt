@@ -2,9 +2,7 @@
 #![tactic(auto)]
 
 mod canon_command;
-mod canonical;
 mod deliver;
-mod laws;
 mod lines;
 mod output;
 mod reading;
@@ -14,9 +12,7 @@ mod stop;
 mod words;
 mod work;
 
-pub use canonical::{BuildFault, canon};
 pub use deliver::write_output;
-pub use laws::canonical_bytes_are_accepted;
 pub use output::{Output, Writes};
 pub use report::tell;
 pub use run::run_tool;
@@ -24,5 +20,7 @@ pub use stop::{Stop, ToolRefusal};
 pub use words::{ToolPlan, WordReason, WordRefusal, plan};
 pub use work::perform;
 
+#[cfg(test)]
+mod canon_tests;
 #[cfg(test)]
 mod tests;

@@ -1,10 +1,11 @@
 //! The top call of the tool.
-ghost use Rattle.std.specs.Prelude.{◌≡◌, ◌≢◌, ◌<◌, ◌⊎◌, Some, IsOk, IsErr, OnOk, IfErr, IfSome, MatchResult};
+ghost use Rattle.std.specs.Prelude.{◌≡◌, ◌≢◌, ◌<◌, ◌⊎◌, Some, IsOk, IsErr, OnOk, IfOk, IfErr, IfSome, MatchResult};
 ghost use Rattle.outside.specs.Causes.{Rose};
 ghost use Rattle.outside.specs.Told.{appended};
 ghost use Rattle.collector.specs.Plan.{planned, texts_of};
 ghost use Rattle.collector.specs.Lines.{IsStatus, words_line};
-ghost use Rattle.collector.specs.Answer.{outcome, answer};
+ghost use Rattle.collector.specs.Answer.{outcome, performed, answer};
+ghost use Rattle.collector.specs.Rebuilt.{KeepsMeaning};
 ghost use Rattle.collector.specs.Causes.{IsStop, IsNoFault, WordsCause, FaultCause, TookRead, TookWrite};
 ghost use Rattle.collector.specs.Delivery.{seen, put_files, Delivered, FailedDelivery, PartDelivered, LeftAtWrite, Unchanged, Untouched, IsAnswered};
 
@@ -15,14 +16,16 @@ use std::alloc::Global;
 const DONE: u8 = 0;
 
 // All but the line on the standard error.
-fn carry_out<F: Files, O: Sink>(
+fn carry_out<F: Files, O: Sink, M: Seeds>(
     alloc: Global,
     words: &[String],
     files: &mut F,
     out: &mut O,
+    seeds: &mut M,
 ) -> Result<(), Stop>
     ensures done { OnOk result (IfSome (F.told files.old) (λ m.
         Delivered (outcome (texts_of words.now) m) m (F.told files.new) (O.taken out.old) (O.taken out.new))) }
+    ensures kept { OnOk result (IfSome (F.told files.old) (λ m. IfOk (planned (texts_of words.now)) (λ plan. IfOk (performed plan m) (KeepsMeaning plan m)))) }
     ensures stopped { IfErr result (λ stop. IfSome (F.told files.old) (λ m. IsStop (outcome (texts_of words.now) m) stop)) }
     ensures words { MatchResult result (λ _. IsOk (planned (texts_of words.now))) (WordsCause (planned (texts_of words.now))) }
     ensures fault { IfErr result (FaultCause (planned (texts_of words.now)) (F.faults files.old) (F.faults files.new) (O.faults out.old) (O.faults out.new)) }
@@ -38,7 +41,7 @@ fn carry_out<F: Files, O: Sink>(
         (seen (F.told files.new) (F.faults files.new) (O.taken out.new) (O.faults out.new)))) }
 {
     let plan = plan(alloc, words)?;
-    match perform(alloc, &plan, files) {
+    match perform(alloc, &plan, files, seeds) {
         Ok(output) => write_output(alloc, &output, files, out),
         Err(stop) => Err(stop),
     }
@@ -51,7 +54,7 @@ pub fn run_tool<F: Files, O: Sink, E: Sink, M: Seeds>(
     files: &mut F,
     out: &mut O,
     err: &mut E,
-    _seeds: &mut M,
+    seeds: &mut M,
 ) -> u8
     // Where the files are told and neither a fault nor want of memory is answered, the status, the files, the text on
     // `out` and, where no fault of `err` was counted, the line on `err` are those of the answer. After 0 nothing is on `err`.
@@ -62,6 +65,9 @@ pub fn run_tool<F: Files, O: Sink, E: Sink, M: Seeds>(
         O.taken out.new ≡ appended (O.taken out.old) (answer (texts_of words.now) m).out) }
     ensures err { IsAnswered result → ¬ (Rose (E.faults err.old) (E.faults err.new)) → IfSome (F.told files.old) (λ m.
         E.taken err.new ≡ appended (E.taken err.old) (answer (texts_of words.now) m).err) }
+    // After 0 the files that the answer writes keep what their command promises: what is written is accepted, with the meaning
+    // of what was read, and is that of no other meaning.
+    ensures rebuilt { result ≡ 0 → IfSome (F.told files.old) (λ m. IfOk (planned (texts_of words.now)) (λ plan. IfOk (performed plan m) (KeepsMeaning plan m))) }
     ensures silent { result ≡ 0 → E.taken err.new ≡ E.taken err.old }
 
     // Whatever the files tell, no other status is answered.
@@ -100,7 +106,7 @@ pub fn run_tool<F: Files, O: Sink, E: Sink, M: Seeds>(
     ensures complete { ¬ (Rose (F.faults files.old) (F.faults files.new)) → ¬ (Rose (O.faults out.old) (O.faults out.new)) →
         result ≢ 7 → IfSome (F.told files.old) (λ m. result ≡ (answer (texts_of words.now) m).status) }
 {
-    match carry_out(alloc, words, files, out) {
+    match carry_out(alloc, words, files, out, seeds) {
         Ok(()) => DONE,
         Err(stop) => tell(alloc, &stop, err),
     }

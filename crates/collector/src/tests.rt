@@ -149,13 +149,46 @@ fn answers(rt: HostRuntime) -> Result<(), Fail> {
             2,
             "IN: zero entry of string table is not zero\n",
         ),
-        // A profile's sample type isn't read yet.
+        // A profile's sample isn't read yet.
         silent_row(
             "canon IN OUT",
-            &[0x0A, 6, 0x12, 4, 0x12, 2, 0x0A, 0],
+            &[0x0A, 6, 0x12, 4, 0x12, 2, 0x12, 0],
             2,
             "IN: not built at 6\n",
         ),
+        // A sample type's unit past the four strings, and one below 0.
+        silent_row(
+            "canon IN OUT",
+            b"\x0a\x0a\x12\x08\x12\x06\x0a\x04\x08\x02\x10\x04\x12\x10\x2a\x00\x2a\x03cpu\x2a\x03cpu\x2a\x02ns",
+            2,
+            "IN: dangling string index 4 of 4 in profile 0/0/0 sample type field 2 item 0\n",
+        ),
+        silent_row(
+            "canon IN OUT",
+            b"\x0a\x13\x12\x11\x12\x0f\x0a\x0d\x08\x02\x10\xff\xff\xff\xff\xff\xff\xff\xff\xff\x01\
+            \x12\x10\x2a\x00\x2a\x03cpu\x2a\x03cpu\x2a\x02ns",
+            2,
+            "IN: dangling string index -1 of 4 in profile 0/0/0 sample type field 2 item 0\n",
+        ),
+        // A first string that isn't empty comes before an index that is in no table.
+        silent_row(
+            "canon IN OUT",
+            b"\x0a\x08\x12\x06\x12\x04\x0a\x02\x08\x09\x12\x03\x2a\x01x",
+            2,
+            "IN: zero entry of string table is not zero\n",
+        ),
+        // Strings that are used, one of which stands doubly.
+        Row {
+            out: "wrote OUT, 37 bytes\n",
+            written: b"\x0a\x0a\x12\x08\x12\x06\x0a\x04\x08\x01\x10\x02\
+                \x12\x17\x0a\x00\x12\x00\x1a\x00\x22\x00\x2a\x00\x2a\x03cpu\x2a\x02ns\x32\x00\x3a\x00",
+            ..silent_row(
+                "canon IN OUT",
+                b"\x0a\x0a\x12\x08\x12\x06\x0a\x04\x08\x02\x10\x03\x12\x10\x2a\x00\x2a\x03cpu\x2a\x03cpu\x2a\x02ns",
+                0,
+                "",
+            )
+        },
         // Two unused strings of the dictionary vanish.
         Row {
             out: "wrote OUT, 16 bytes\n",

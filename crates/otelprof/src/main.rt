@@ -2,7 +2,7 @@
 #![tactic(auto)]
 
 use collector::run_tool;
-use outside::{DiskFiles, FixedSeeds, Sink, WriterSink, put_all};
+use outside::{DiskFiles, Sink, SystemSeeds, WriterSink, put_all};
 use std::alloc::AllocError;
 use std::env;
 use std::io::ErrorKind;
@@ -31,7 +31,7 @@ fn main(rt: HostRuntime) -> ExitCode {
         &mut files,
         &mut out,
         &mut err,
-        &mut FixedSeeds,
+        &mut SystemSeeds::begin(&rt),
     );
     ExitCode::from(status)
 }
