@@ -8,7 +8,7 @@ use crate::{Blob, Number, Repeated, Text, Wire};
 
 /// The length of a tag, of a length, and of the bytes behind them.
 #[inline]
-pub(crate) fn long_len(number: u32, len: u64) -> u64
+pub fn long_len(number: u32, len: u64) -> u64
     requires below { number < 2 ^ 29 }
     requires room { len < 2 ^ 63 }
     ensures { result ≡ length (varint (number * 8 + 2)) + length (varint len) + len }

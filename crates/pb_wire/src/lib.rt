@@ -30,8 +30,8 @@ pub use fault::{ReadFault, Reason, WireFault};
 pub use field::{Field, Payload};
 pub use laws::reads_what_is_written;
 pub use lengths::{
-    bytes_len, bytes_list_len, fixed_len, fixed_list_len, message_len, messages_len, number_len,
-    numbers_len, text_len, text_list_len,
+    bytes_len, bytes_list_len, fixed_len, fixed_list_len, long_len, message_len, messages_len,
+    number_len, numbers_len, text_len, text_list_len,
 };
 pub use memory::NoMemory;
 pub use next::next_field;
@@ -45,7 +45,7 @@ pub use put_rows::{
 pub use repeated::Repeated;
 pub use take::{
     RowType, add_bytes, add_fixed, add_message, add_number, add_text, refuse_many, refuse_one,
-    take_bytes, take_fixed, take_message, take_number, take_text,
+    take_bytes, take_fixed, take_message, take_number, take_text, text_of,
 };
 pub use text::Text;
 pub use wire::Wire;

@@ -59,7 +59,8 @@ impl<'a> Pieces<'a> {
         self.items.get(place).copied()
     }
 
-    pub(crate) fn as_slice(&self) -> &[Piece<'a>]
+    /// The pieces in order. It takes no memory.
+    pub fn as_slice(&self) -> &[Piece<'a>]
         ensures items { map part_view result.now ≡ self.now }
         ensures below { All (λ p. p.base + length p.bytes.now < 2 ^ 63) result.now }
     {

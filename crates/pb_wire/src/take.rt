@@ -49,8 +49,8 @@ pub fn take_bytes(slot: &mut Blob, alloc: Global, field: &Field<'_>) -> Result<(
     Ok(())
 }
 
-// The text of bytes, which are at the place of its tag.
-fn text_of(alloc: Global, bytes: &[u8], at: u64) -> Result<Text, ReadFault>
+/// The text of bytes; `at` is the place of their field's tag.
+pub fn text_of(alloc: Global, bytes: &[u8], at: u64) -> Result<Text, ReadFault>
     ensures { Reads (λ t. t) result (text_at at bytes.now) }
 {
     match str::from_utf8(bytes) {

@@ -1,0 +1,8 @@
+pub mod Loops
+pub mod Levels
+pub mod Parts
+pub mod Elements
+pub mod Appends
+pub mod Counts
+pub mod Fed
+pub mod Short

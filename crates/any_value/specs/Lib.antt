@@ -1,0 +1,7 @@
+pub mod Codes
+pub mod Sizes
+pub mod Views
+pub mod Falls
+pub mod MemberViews
+pub mod Equal
+pub mod Hashed

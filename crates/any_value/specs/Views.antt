@@ -1,0 +1,19 @@
+-- What the code's values are to the definitions of `schema`.
+use Rattle.schema.specs.AnyValue as any
+use Rattle.schema.specs.AnyValue.{AnyValue}
+use Rattle.any_value.specs.declared.value.Value.{Value}
+use Rattle.any_value.specs.declared.value.Value.TheVariants as value
+use Rattle.any_value.specs.declared.value.KeyValue.{KeyValue}
+
+abbrev pub any_view : Value → AnyValue
+any_view value.Empty = AnyValue.Empty
+any_view (value.Text b) = AnyValue.Text b
+any_view (value.Flag x) = AnyValue.Flag x
+any_view (value.Int z) = AnyValue.Int z
+any_view (value.Double b) = AnyValue.Double b
+any_view (value.Items vs) = any.items vs
+any_view (value.Pairs kvs) = any.pairs kvs
+any_view (value.Raw b) = AnyValue.Raw b
+
+abbrev pub pair_view : KeyValue → any.KeyValue
+pair_view kv = (kv.key, any_view kv.value)

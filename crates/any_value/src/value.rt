@@ -1,0 +1,86 @@
+//! A value that holds values of its own kind, and the lists in it.
+use pb_wire::{Blob, Text};
+use std::marker::Model;
+
+/// A value of an attribute: one of eight forms. A double is its eight bytes as they are stored.
+#[cycle(value)]
+#[derive(Drop)]
+pub enum Value {
+    /// No member is set.
+    Empty,
+    Text(Text),
+    Flag(bool),
+    Int(i64),
+    Double([u8; 8]),
+    Items(Values),
+    Pairs(KeyValues),
+    Raw(Blob),
+}
+
+/// A key and its value.
+#[cycle(value)]
+#[derive(Drop)]
+pub struct KeyValue {
+    pub key: Text,
+    pub value: Value,
+}
+
+/// Values in order.
+#[cycle(value)]
+#[derive(Drop)]
+pub struct Values {
+    pub(crate) inner: Vec<Value>,
+}
+
+impl Model for Values {
+    ghost use Rattle.std.specs.Prelude.{List, map};
+    ghost use Rattle.std.specs.Coded.{coded_list};
+    ghost use Rattle.schema.specs.AnyValue.{AnyValue};
+    ghost use Rattle.any_value.specs.Codes.{any_code};
+    ghost use Rattle.any_value.specs.Sizes.{list_size};
+
+    ghost Value = { List AnyValue };
+
+    ghost coded = { coded_list any_code };
+
+    ghost use Rattle.any_value.specs.Views.{any_view};
+
+    ghost view = { λ a. map any_view a.inner.items };
+
+    ghost size = { list_size };
+
+    ghost use Rattle.any_value.specs.Falls.{values_fall};
+    ghost use Rattle.std.proofs.Common.{arith};
+
+    ghost size_decreases = { λ a h. Prim.omega (arith, values_fall a.inner.items) };
+}
+
+/// Keys and their values in order.
+#[cycle(value)]
+#[derive(Drop)]
+pub struct KeyValues {
+    pub(crate) inner: Vec<KeyValue>,
+}
+
+impl Model for KeyValues {
+    ghost use Rattle.std.specs.Prelude.{List, map};
+    ghost use Rattle.std.specs.Coded.{coded_list};
+    ghost use Rattle.schema.specs.AnyValue as any;
+    ghost use Rattle.any_value.specs.Codes.{pair_code};
+    ghost use Rattle.any_value.specs.Sizes.{pair_list_size};
+
+    ghost Value = { List any.KeyValue };
+
+    ghost coded = { coded_list pair_code };
+
+    ghost use Rattle.any_value.specs.Views.{pair_view};
+
+    ghost view = { λ a. map pair_view a.inner.items };
+
+    ghost size = { pair_list_size };
+
+    ghost use Rattle.any_value.specs.Falls.{pairs_fall};
+    ghost use Rattle.std.proofs.Common.{arith};
+
+    ghost size_decreases = { λ a h. Prim.omega (arith, pairs_fall a.inner.items) };
+}
