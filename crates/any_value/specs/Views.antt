@@ -1,6 +1,8 @@
 -- What the code's values are to the definitions of `schema`.
 use Rattle.schema.specs.AnyValue as any
 use Rattle.schema.specs.AnyValue.{AnyValue}
+use Rattle.schema.specs.Messages.{key_value}
+use Rattle.schema.specs.Shape as shape
 use Rattle.any_value.specs.declared.value.Value.{Value}
 use Rattle.any_value.specs.declared.value.Value.TheVariants as value
 use Rattle.any_value.specs.declared.value.KeyValue.{KeyValue}
@@ -17,3 +19,7 @@ any_view (value.Raw b) = AnyValue.Raw b
 
 abbrev pub pair_view : KeyValue → any.KeyValue
 pair_view kv = (kv.key, any_view kv.value)
+
+-- a key and its value as a message: an attribute, whose value has depth 1
+abbrev pub attribute_view : KeyValue → shape.Value (key_value 1)
+attribute_view kv = (kv.key, (any_view kv.value, tt))

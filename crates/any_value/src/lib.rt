@@ -1,6 +1,7 @@
 //! The value that holds values of its own kind: its types, and reading and writing it.
 #![tactic(auto)]
 
+mod attribute;
 mod comparing;
 mod copying;
 mod feeding;

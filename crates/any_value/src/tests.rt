@@ -188,9 +188,9 @@ fn takes_rows(rt: HostRuntime) -> Result<(), Fail> {
     Ok(())
 }
 
-// So many lists, one in the other, around an integer.
-fn nested(alloc: Global, levels: u32) -> Result<Blob, Fail> {
-    let mut inside = Blob::copy_of(alloc, b"\x18\x01")?;
+// So many lists, one in the other, around this value.
+fn nested(alloc: Global, levels: u32, innermost: &[u8]) -> Result<Blob, Fail> {
+    let mut inside = Blob::copy_of(alloc, innermost)?;
     for _ in 0..levels {
         let mut element = Blob::begin(alloc);
         put_field(&mut element, 1, &Payload::Bytes(inside.as_slice()))?;
@@ -204,14 +204,14 @@ fn nested(alloc: Global, levels: u32) -> Result<Blob, Fail> {
 #[test]
 fn reads_64_levels(rt: HostRuntime) -> Result<(), Fail> {
     let alloc = rt.alloc();
-    let deepest = nested(alloc, 63)?;
+    let deepest = nested(alloc, 63, b"\x18\x01")?;
     assert!(rt; deepest.len() < 1000);
     let written = rewritten(alloc, deepest.as_slice())?;
     assert_eq!(rt; written.payload.as_slice(), deepest.as_slice());
     let value = value_of(alloc, deepest.as_slice())?;
     let copy = value.duplicate(alloc)?;
     assert!(rt; copy == value);
-    let deeper = nested(alloc, 64)?;
+    let deeper = nested(alloc, 64, b"\x18\x01")?;
     assert!(rt; deeper.len() > 4 && deeper.len() < 1000);
     let fault = WireFault {
         place: 96 + deeper.len() as u64,
@@ -221,6 +221,24 @@ fn reads_64_levels(rt: HostRuntime) -> Result<(), Fail> {
         value_of(alloc, deeper.as_slice()).err(),
         Some(ReadFault::Wire(fault))
     );
+    Ok(())
+}
+
+// The value of 64 levels whose innermost list has one empty element: its copy is equal to it, and one of 63 levels is not.
+#[test]
+fn copies_64_levels(rt: HostRuntime) -> Result<(), Fail> {
+    let alloc = rt.alloc();
+    let deepest = nested(alloc, 63, b"")?;
+    assert!(rt; deepest.len() < 1000);
+    let value = value_of(alloc, deepest.as_slice())?;
+    let copy = value.duplicate(alloc)?;
+    assert!(rt; copy == value);
+    assert_eq!(rt; hash_of(&copy), hash_of(&value));
+    let written = rewritten(alloc, deepest.as_slice())?;
+    assert_eq!(rt; written.payload.as_slice(), deepest.as_slice());
+    let shallower = nested(alloc, 62, b"")?;
+    assert!(rt; shallower.len() < 1000);
+    assert!(rt; copy != value_of(alloc, shallower.as_slice())?);
     Ok(())
 }
 

@@ -4,7 +4,7 @@ use std::marker::Model;
 
 /// A value of an attribute: one of eight forms. A double is its eight bytes as they are stored.
 #[cycle(value)]
-#[derive(Drop)]
+#[derive(Debug, Drop)]
 pub enum Value {
     /// No member is set.
     Empty,
@@ -19,7 +19,7 @@ pub enum Value {
 
 /// A key and its value.
 #[cycle(value)]
-#[derive(Drop)]
+#[derive(Debug, Drop)]
 pub struct KeyValue {
     pub key: Text,
     pub value: Value,
@@ -27,7 +27,7 @@ pub struct KeyValue {
 
 /// Values in order.
 #[cycle(value)]
-#[derive(Drop)]
+#[derive(Debug, Drop)]
 pub struct Values {
     pub(crate) inner: Vec<Value>,
 }
@@ -57,7 +57,7 @@ impl Model for Values {
 
 /// Keys and their values in order.
 #[cycle(value)]
-#[derive(Drop)]
+#[derive(Debug, Drop)]
 pub struct KeyValues {
     pub(crate) inner: Vec<KeyValue>,
 }

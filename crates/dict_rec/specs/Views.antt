@@ -2,6 +2,7 @@
 use Rattle.std.specs.Prelude.{ℤ, List, map}
 use Rattle.schema.specs.Messages.{mapping, location, line, function, link, attribute, stack, dictionary}
 use Rattle.schema.specs.Shape.{Value}
+use Rattle.any_value.specs.Views.{any_view}
 use Rattle.dict_rec.specs.declared.mapping.Mapping.{Mapping}
 use Rattle.dict_rec.specs.declared.location.Location.{Location}
 use Rattle.dict_rec.specs.declared.line.Line.{Line}
@@ -31,7 +32,7 @@ abbrev pub link_view : Link → Value link
 link_view v = (v.trace_id, (v.span_id, tt))
 
 abbrev pub attribute_view : Attr → Value attribute
-attribute_view v = (v.key_strindex, (tt, (v.unit_strindex, tt)))
+attribute_view v = (v.key_strindex, (any_view v.value, (v.unit_strindex, tt)))
 
 abbrev pub stack_view : Stack → Value stack
 stack_view v = (indexes_view v.location_indices, tt)

@@ -3,17 +3,16 @@ ghost use Rattle.std.specs.Prelude.{refl};
 ghost use Rattle.schema.specs.Messages.{attribute};
 ghost use Rattle.dict_rec.specs.Views.{attribute_view};
 
-use pb_wire::{
-    Blob, Field, NoMemory, ReadFault, RowType, Wire, number_len, put_number, refuse_one,
-    take_number,
-};
+use any_value::{Value, put_value, take_value, value_row_len};
+use pb_wire::{Blob, Field, NoMemory, ReadFault, Wire, number_len, put_number, take_number};
 use std::alloc::Global;
 
-/// An attribute of the dictionary: a key, a value and a unit. The value is not read yet.
-#[derive(Clone, Copy, Debug, PartialEq, Eq)]
+/// An attribute of the dictionary: a key, a value and a unit.
+#[derive(Debug, Drop)]
 pub struct Attr {
     /// The key, an index into the string table.
     pub key_strindex: i32,
+    pub value: Value,
     /// The unit, an index into the string table.
     pub unit_strindex: i32,
 }
@@ -30,25 +29,30 @@ impl Wire for Attr {
     fn none(_alloc: Global) -> Attr {
         Attr {
             key_strindex: 0,
+            value: Value::Empty,
             unit_strindex: 0,
         }
     }
 
-    fn take(&mut self, _alloc: Global, field: &Field<'_>) -> Result<(), ReadFault> {
+    fn take(&mut self, alloc: Global, field: &Field<'_>) -> Result<(), ReadFault> {
         match field.number {
             1 => take_number(&mut self.key_strindex, field),
-            2 => refuse_one(RowType::Bytes, field),
+            2 => take_value(&mut self.value, alloc, field, 1),
             3 => take_number(&mut self.unit_strindex, field),
             _ => Ok(()),
         }
     }
 
     fn rows_len(&self) -> u64 {
-        number_len(1, self.key_strindex) + number_len(3, self.unit_strindex)
+        number_len(1, self.key_strindex)
+            + value_row_len(2, &self.value)
+            + number_len(3, self.unit_strindex)
     }
 
+    #[tactic(auto, using(pb_wire::proofs::Begins::growing))]
     fn put_rows(&self, out: &mut Blob) -> Result<(), NoMemory> {
         put_number(out, 1, self.key_strindex)?;
+        put_value(out, 2, &self.value)?;
         put_number(out, 3, self.unit_strindex)?;
         Ok(())
     }

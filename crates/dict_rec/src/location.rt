@@ -16,7 +16,7 @@ pub struct Location {
     /// The mapping that the address is in, an index into the mapping table.
     pub mapping_index: i32,
     pub address: u64,
-    /// The lines, of which those behind the first were inlined into it.
+    /// The lines, from the innermost call on: each was inlined into the one behind it.
     pub lines: Repeated<Line>,
     /// Indexes into the attribute table.
     pub attribute_indices: Repeated<i32>,

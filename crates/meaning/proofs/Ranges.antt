@@ -6,7 +6,7 @@ use Rattle.std.proofs.lemmas.List.{length-map, length-append}
 use Rattle.schema.specs.Each.{Each}
 use Rattle.schema.specs.Fits.{Fits, FitsTogether, Lawful}
 use Rattle.schema.specs.Texts.{FitsNumber, items_text, long_field}
-use Rattle.schema.specs.Shape.{Shape, Number, Fixed, Text, Any, Index, Unbuilt, End, One, Many, I32, IsMessage, Value, empty, Table, Mappings, Locations, Functions, Links, Strings, Attributes, Stacks}
+use Rattle.schema.specs.Shape.{Shape, Number, Fixed, Text, Any, Index, End, One, Many, I32, IsMessage, Value, empty, Table, Mappings, Locations, Functions, Links, Strings, Attributes, Stacks}
 use Rattle.schema.specs.AnyValue.{AnyValue}
 use Rattle.schema.specs.AnyMerge.{any_levels}
 use Rattle.schema.specs.AnySpell.{AnyInRange, FitsAny}
@@ -34,11 +34,10 @@ use Rattle.meaning.proofs.Texts.{text-parts}
 -- a repeated row that isn't read has no elements, and AnyValues that can be written are in their range
 also_together : (k : Shape) (vs : List (Value k)) → FitsTogether k vs → AlsoIn k vs
 also_together (Any depth) vs h = each_all (FitsAny (any_levels depth)) (AnyInRange (any_levels depth)) (λ v f. f.0) vs h
-also_together (Unbuilt k) vs h = h
 also_together k vs h = tt
 
 -- a value that can be written is in its range
-in_range : (s : Shape) (x : Value s) → Fits s x → InRange s x
+pub in_range : (s : Shape) (x : Value s) → Fits s x → InRange s x
 in_range (Number w) x h = h
 in_range (Index T k) x h = h
 in_range Fixed x h = h
@@ -54,10 +53,9 @@ in_range s x h = tt
 
 -- ---- meanings
 
--- the tree of a list of what is not read is the empty one, and that of AnyValues holds such as can be written
+-- the tree of a list of AnyValues holds such as can be written
 abbrev AlsoRange : Shape → Tree → Type 0
 AlsoRange (Any depth) t = AreElements (λ e. AnyInRange (any_levels depth) (any_of e)) t
-AlsoRange (Unbuilt k) t = t ≡ Nil
 AlsoRange k t = Unit {0}
 
 -- the leaves of a meaning are in their range
@@ -70,7 +68,6 @@ HasRange s t = InRange s (value s t)
 -- so is the empty list
 nil_also : (k : Shape) → AlsoRange k Nil
 nil_also (Any depth) = refl
-nil_also (Unbuilt k) = refl
 nil_also k = tt
 
 -- AnyValues that can be written, as what they mean
@@ -82,7 +79,6 @@ values_also d depth (v ∷ vs) h = (subst (AnyInRange (any_levels depth)) (sym (
 -- what a repeated row means
 list_also : (d : Tables) (k : Shape) (vs : List (Value k)) → AlsoIn k vs → AlsoRange k (at_each (resolve d k) (listed (map (tree k) vs)))
 list_also d (Any depth) vs h = values_also d depth vs h
-list_also d (Unbuilt k) vs h = ap (λ l. at_each (resolve d (Unbuilt k)) (listed (map (tree (Unbuilt k)) l))) h
 list_also d k vs h = tt
 
 -- an entry is the tree of a value in its range
@@ -164,7 +160,6 @@ values_renumbered v depth t h =
 -- the elements of a repeated row
 elements_also : (v : Tables) (k : Shape) (t : Tree) → AlsoRange k t → AlsoIn k (map (value k) (elements (at_each (renumber v k) t)))
 elements_also v (Any depth) t h = values_renumbered v depth t h
-elements_also v (Unbuilt k) t h = ap (λ e. map (value (Unbuilt k)) (elements (at_each (renumber v (Unbuilt k)) e))) h
 elements_also v k t h = tt
 
 -- so a meaning whose leaves are in their range is in its range, with the places in lists that are short

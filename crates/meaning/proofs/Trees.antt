@@ -4,7 +4,7 @@ use Rattle.std.specs.Bool.{beq}
 use Rattle.std.proofs.lemmas.Bool.{eqb-true, eq-eqb, and_parts, and_from}
 use Rattle.std.proofs.lemmas.Bool.Decides.{Decides-int_eq}
 use Rattle.std.proofs.lemmas.Slice.Eq.{bytes_eq-Decides}
-use Rattle.schema.specs.Shape.{Shape, Number, Fixed, Bytes, Text, Any, Index, Unbuilt, End, One, Many, Format, U32, U64, I32, I64, Flag, NumberValue, Value}
+use Rattle.schema.specs.Shape.{Shape, Number, Fixed, Bytes, Text, Any, Index, End, One, Many, Format, U32, U64, I32, I64, Flag, NumberValue, Value}
 use Rattle.meaning.specs.Tree.{Tree, Natural, Integer, Boolean, Octets, Nil, Cons, number_tree, number_of, listed, elements, tree, value, same, any_of, any_tree, pairs_of, pairs_tree, values_of, values_tree}
 use Rattle.schema.specs.AnyValue.{AnyValue, Values, NoValues, AddValue, KeyValues, NoPairs, AddPair}
 
@@ -58,7 +58,6 @@ value-tree Bytes v = refl
 value-tree Text v = refl
 value-tree (Any depth) v = any-back v
 value-tree (Index T entry) v = refl
-value-tree (Unbuilt k) v = refl
 value-tree End v = refl
 value-tree (One n k rest) v =
     let a : value k (tree k v.0) ≡ v.0 = value-tree k v.0 in

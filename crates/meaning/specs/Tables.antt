@@ -1,6 +1,6 @@
 -- The tables of a dictionary: what their entries are, and lists by table.
 use Rattle.std.specs.Prelude.{◌≡◌, ℕ, suc, List, [], ◌∷◌, ◌++◌, Bool, true, false, cond, ◌==◌}
-use Rattle.schema.specs.Shape.{Shape, Index, Unbuilt, One, Many, Table, Mappings, Locations, Functions, Links, Strings, Attributes, Stacks}
+use Rattle.schema.specs.Shape.{Shape, Index, One, Many, Table, Mappings, Locations, Functions, Links, Strings, Attributes, Stacks}
 pub use Rattle.schema.specs.Messages.{entry}
 use Rattle.meaning.specs.Tree.{Tree, same}
 
@@ -21,7 +21,6 @@ same_table T U = field_of T == field_of U
 -- each index of the shape has the shape of its table's entries
 abbrev pub IsSound : Shape → Type 0
 IsSound (Index T k) = (k ≡ entry T) × IsSound k
-IsSound (Unbuilt k) = IsSound k
 IsSound (One n k rest) = IsSound k × IsSound rest
 IsSound (Many n k rest) = IsSound k × IsSound rest
 IsSound s = Unit {0}

@@ -3,7 +3,7 @@ use Rattle.std.specs.Prelude.{◌≡◌, ℕ, ℤ, pos, List, [], ◌∷◌, map
 use Rattle.std.specs.Bool.{beq}
 use Rattle.std.specs.Ordering.{int_eq}
 use Rattle.std.specs.Str.{bytes_eq}
-use Rattle.schema.specs.Shape.{Shape, Number, Fixed, Bytes, Text, Any, Index, Unbuilt, End, One, Many, Format, U32, U64, I32, I64, Flag, NumberValue, Value}
+use Rattle.schema.specs.Shape.{Shape, Number, Fixed, Bytes, Text, Any, Index, End, One, Many, Format, U32, U64, I32, I64, Flag, NumberValue, Value}
 use Rattle.schema.specs.AnyValue.{AnyValue, Values, NoValues, AddValue, KeyValues, NoPairs, AddPair}
 
 -- A message is its rows, and a repeated row its elements, each up to `Nil`.
@@ -50,7 +50,7 @@ abbrev mutual
   pairs_tree NoPairs = Nil
   pairs_tree (AddPair k v kvs) = Cons (Cons (Octets k) (any_tree v)) (pairs_tree kvs)
 
--- the tree of a value; an index is its number, and what is not read yet is nothing
+-- the tree of a value; an index is its number
 abbrev pub tree : (s : Shape) → Value s → Tree
 tree (Number w) v = number_tree w v
 tree Fixed v = Natural v
@@ -58,7 +58,6 @@ tree Bytes v = Octets v
 tree Text v = Octets v
 tree (Any depth) v = any_tree v
 tree (Index T entry) v = Integer v
-tree (Unbuilt k) v = Nil
 tree End v = Nil
 tree (One n k rest) v = Cons (tree k v.0) (tree rest v.1)
 tree (Many n k rest) v = Cons (listed (map (tree k) v.0)) (tree rest v.1)
@@ -138,7 +137,6 @@ value Bytes t = octets_of t
 value Text t = octets_of t
 value (Any depth) t = any_of t
 value (Index T entry) t = integer_of t
-value (Unbuilt k) t = tt
 value End t = tt
 value (One n k rest) t = (value k (head_of t), value rest (tail_of t))
 value (Many n k rest) t = (map (value k) (elements (head_of t)), value rest (tail_of t))

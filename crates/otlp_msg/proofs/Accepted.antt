@@ -109,7 +109,7 @@ accepted_back body m few e passed =
 -- ---- what is known of an accepted message
 
 -- so its spelling is short
-pub accepted_short : (body : List ℕ) (m : Message) → All (λ b. b < 256) body → message_of body ≡ Ok m → length (spell envelope m) < 2 ^ 62
+pub accepted_short : (body : List ℕ) (m : Message) → All (λ b. b < 256) body → message_of body ≡ Ok m → length (spell envelope m) < 2 ^ 60
 accepted_short body m bytes e =
     let p = accepted_read body m e in
     let few : length body ≤ message_limit = p.0 in

@@ -18,7 +18,7 @@ use Rattle.pb_wire.specs.declared.fault.WireFault.{WireFault}
 use Rattle.dict_rec.specs.declared.dictionary.TableKind.{TableKind}
 use Rattle.otlp_msg.specs.declared.path.Path.{Path}
 use Rattle.otlp_msg.specs.declared.refusal.Refusal.{Refusal}
-use Rattle.otlp_msg.specs.declared.refusal.Refusal.TheVariants.{Size, Wire, ZeroEntry, Dangling, NotBuilt, NoMemory}
+use Rattle.otlp_msg.specs.declared.refusal.Refusal.TheVariants.{Size, Wire, ZeroEntry, Dangling, NoMemory}
 use Rattle.otlp_msg.specs.Acceptance.{IsMessageOf, IsAccepted, IsNotZero, IsDangling}
 use Rattle.otlp_msg.specs.Message.{Message, message_of, message_limit, tested, with_zeros, dictionary_of, refusal_at}
 use Rattle.otlp_msg.specs.Walk.{dangling, lengths_in, message_spots, within}
@@ -45,7 +45,6 @@ inside_of m = within (lengths_in (dictionary_of m)) (message_spots m)
 abbrev Why : Bool → ℕ → Read → Refusal → Type 0
 Why t n r (Size len) = (t ≡ true) × (len ≡ n)
 Why t n r (Wire f) = (t ≡ false) × (r ≡ Err (fault_view f))
-Why t n r (NotBuilt place) = (t ≡ false) × (r ≡ Err (fault_at place faults.NotBuilt))
 Why t n r (ZeroEntry table) = (m : Message) × (t ≡ false) × (r ≡ Ok m) × (zeros_of m ≡ Some table)
 Why t n r (Dangling table index len path) = (m : Message) × (t ≡ false) × (r ≡ Ok m) × (zeros_of m ≡ None) × (inside_of m ≡ Err (Dangling table index len path))
 Why t n r NoMemory = ⊥
@@ -63,7 +62,6 @@ why_fault n place faults.WireType = (refl, refl)
 why_fault n place faults.NotUtf8 = (refl, refl)
 why_fault n place faults.PackedLength = (refl, refl)
 why_fault n place faults.TooDeep = (refl, refl)
-why_fault n place faults.NotBuilt = (refl, refl)
 
 -- the reason of a refusal for an index
 why_outside : (n : ℕ) (m : Message) (r : Passed) (why : Refusal) → zeros_of m ≡ None → inside_of m ≡ r → (let a : Answer = r >>= λ _. Ok m in a ≡ Err why) → Why false n (Ok m) why
@@ -102,7 +100,6 @@ sized t n r s e f = ap (λ (x : Bool). answer x n r) e ∙ ap tested f
 why_to : (t : Bool) (n : ℕ) (r : Read) (why : Refusal) → Why t n r why → answer t n r ≡ Err why
 why_to t n r (Size len) w = ap (λ (x : Bool). answer x n r) w.0 ∙ ap (λ (x : ℕ). let a : Answer = Err (Size x) in a) (sym w.1)
 why_to t n r (Wire f) w = sized t n r (Err (fault_view f)) w.0 w.1 ∙ wire_back f.place f.reason
-why_to t n r (NotBuilt place) w = sized t n r (Err (fault_at place faults.NotBuilt)) w.0 w.1
 why_to t n r (ZeroEntry table) w = sized t n r (Ok w.0) w.1 w.2 ∙ ap (λ o. with_zeros o w.0) w.3
 why_to t n r (Dangling table index len path) w =
     sized t n r (Ok w.0) w.1 w.2 ∙ ap (λ o. with_zeros o w.0) w.3 ∙ ap (λ (p : Passed). let a : Answer = p >>= λ _. Ok w.0 in a) w.4
@@ -143,17 +140,6 @@ wire_from body f e =
 -- and the other way
 pub wire_to : (body : List ℕ) (f : WireFault) → (length body ≤ message_limit) × HasFault envelope 0 body (fault_view f) → message_of body ≡ Err (Wire f)
 wire_to body f h = to_answer body (Wire f) (le-ltb message_limit (length body) h.0, merge_fault envelope (empty envelope) 0 body (fault_view f) h.1)
-
--- a field is not read yet
-pub not_built_from : (body : List ℕ) (place : ℕ) → message_of body ≡ Err (NotBuilt place) → (length body ≤ message_limit) × HasFault envelope 0 body (fault_at place faults.NotBuilt)
-not_built_from body place e =
-    let w = from_answer body (NotBuilt place) e in
-    (ltb-false message_limit (length body) w.0, merge_err envelope (empty envelope) 0 body (fault_at place faults.NotBuilt) w.1)
-
--- and the other way
-pub not_built_to : (body : List ℕ) (place : ℕ) → (length body ≤ message_limit) × HasFault envelope 0 body (fault_at place faults.NotBuilt) → message_of body ≡ Err (NotBuilt place)
-not_built_to body place h =
-    to_answer body (NotBuilt place) (le-ltb message_limit (length body) h.0, merge_fault envelope (empty envelope) 0 body (fault_at place faults.NotBuilt) h.1)
 
 -- the bytes are those of a message
 is_message : (body : List ℕ) (m : Message) → too_many body ≡ false → read_of body ≡ Ok m → IsMessageOf body m

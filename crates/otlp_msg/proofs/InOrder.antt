@@ -3,8 +3,8 @@ use Rattle.std.proofs.Common.{◌≡◌, ℕ, suc, ◌≤◌, List, [], ◌∷�
 use Rattle.schema.specs.Each.{Each}
 use Rattle.schema.specs.Fits.{Lawful}
 use Rattle.schema.specs.Merge.{merge}
-use Rattle.schema.specs.Messages.{mapping, location, function, link, attribute, stack, plain_profile, scope_profiles, resource_profiles, dictionary, envelope}
-use Rattle.schema.specs.Shape.{Shape, Number, Fixed, Bytes, Text, Any, Index, Unbuilt, End, One, Many, IsMessage, Table, Mappings, Locations, Functions, Links, Strings, Attributes, Stacks, Value, empty}
+use Rattle.schema.specs.Messages.{mapping, location, function, link, attribute, stack, profile, scope_profiles, resource_profiles, dictionary, envelope}
+use Rattle.schema.specs.Shape.{Shape, Number, Fixed, Bytes, Text, Any, Index, End, One, Many, IsMessage, Table, Mappings, Locations, Functions, Links, Strings, Attributes, Stacks, Value, empty}
 use Rattle.schema_laws.proofs.Lawful.{lawful_from}
 use Rattle.schema_laws.proofs.Lists.{each_append}
 use Rattle.meaning.specs.Canonical.{IsIndex, IsWithin, HoldsForEach}
@@ -23,7 +23,7 @@ use Rattle.otlp_msg.specs.Message.{Message, message_of, message_limit, dictionar
 use Rattle.otlp_msg.specs.Walk.{Spot, entered, entry_holder, row_spots, each_spots, spots, table_spots, dictionary_spots, profile_spots, scope_spots, resource_spots, message_spots, lengths_in, IsInside}
 use Rattle.otlp_msg.specs.ZeroEntries.{BeginsWithZero, HasZeroEntry, all_tables}
 use Rattle.otlp_msg.proofs.Accepted.{accepted_back}
-use Rattle.otlp_msg.proofs.Inside.{HasLengths, has_lengths, inside_to, plain_sound}
+use Rattle.otlp_msg.proofs.Inside.{HasLengths, has_lengths, inside_to, profile_sound}
 use Rattle.otlp_msg.proofs.Zeros.{all_to, none_to}
 
 -- ---- indexes
@@ -51,7 +51,6 @@ row_from len d l Fixed sound inner by field item v h = tt
 row_from len d l Bytes sound inner by field item v h = tt
 row_from len d l Text sound inner by field item v h = tt
 row_from len d l (Any depth) sound inner by field item v h = tt
-row_from len d l (Unbuilt k) sound inner by field item v h = tt
 row_from len d l k sound inner by field item v h = inner tt (entered by field item) v h
 
 -- a message whose tree has its indexes in their tables
@@ -92,12 +91,12 @@ dictionary_from d h =
     (table_from len (tables_in d) l stack tt (lawful_from stack refl) (entry_sound Stacks) kind.Stack d.1.1.1.1.1.1.0 (h Stacks)))))
 
 -- the records
-profile_from : (len : TableKind → ℕ) (d : Tables) → HasLengths len d → (r s p : ℕ) (v : Value plain_profile) → IsWithin d plain_profile (tree plain_profile v) → Each (IsInside len) (profile_spots r s p v)
-profile_from len d l r s p v h = value_from len d l plain_profile tt (lawful_from plain_profile refl) plain_sound (holder.Profile (record { resource = r; scope = s; profile = p })) v h
+profile_from : (len : TableKind → ℕ) (d : Tables) → HasLengths len d → (r s p : ℕ) (v : Value profile) → IsWithin d profile (tree profile v) → Each (IsInside len) (profile_spots r s p v)
+profile_from len d l r s p v h = value_from len d l profile tt (lawful_from profile refl) profile_sound (holder.Profile (record { resource = r; scope = s; profile = p })) v h
 
 scope_from : (len : TableKind → ℕ) (d : Tables) → HasLengths len d → (r s : ℕ) (v : Value scope_profiles) → IsWithin d scope_profiles (tree scope_profiles v) → Each (IsInside len) (scope_spots r s v)
 scope_from len d l r s v h =
-    each_from len (IsWithin d plain_profile) (tree plain_profile) (profile_spots r s) (profile_from len d l r s) 0 v.1.0 (each_listed (IsWithin d plain_profile) (map (tree plain_profile) v.1.0) h.1.0)
+    each_from len (IsWithin d profile) (tree profile) (profile_spots r s) (profile_from len d l r s) 0 v.1.0 (each_listed (IsWithin d profile) (map (tree profile) v.1.0) h.1.0)
 
 resource_from : (len : TableKind → ℕ) (d : Tables) → HasLengths len d → (r : ℕ) (v : Value resource_profiles) → IsWithin d resource_profiles (tree resource_profiles v) → Each (IsInside len) (resource_spots r v)
 resource_from len d l r v h =

@@ -4,8 +4,8 @@ use Rattle.std.proofs.lemmas.Bool.{ltb-true, lt-ltb}
 use Rattle.std.proofs.lemmas.List.{length-map}
 use Rattle.schema.specs.Each.{Each}
 use Rattle.schema.specs.Fits.{Lawful}
-use Rattle.schema.specs.Messages.{mapping, location, function, link, attribute, stack, plain_profile, scope_profiles, resource_profiles, dictionary}
-use Rattle.schema.specs.Shape.{Shape, Number, Fixed, Bytes, Text, Any, Index, Unbuilt, End, One, Many, IsMessage, Value, Table, Mappings, Locations, Functions, Links, Strings, Attributes, Stacks}
+use Rattle.schema.specs.Messages.{mapping, location, function, link, attribute, stack, profile, scope, scope_profiles, resource, resource_profiles, dictionary}
+use Rattle.schema.specs.Shape.{Shape, Number, Fixed, Bytes, Text, Any, Index, End, One, Many, IsMessage, Value, Table, Mappings, Locations, Functions, Links, Strings, Attributes, Stacks}
 use Rattle.schema_laws.proofs.Lawful.{lawful_from}
 use Rattle.schema_laws.proofs.Lists.{each_left, each_right}
 use Rattle.meaning.specs.Canonical.{HoldsForEach, IsIndex, IsWithin}
@@ -22,6 +22,7 @@ use Rattle.otlp_msg.specs.declared.refusal.Refusal.{Refusal}
 use Rattle.otlp_msg.specs.Message.{Message, dictionary_of, records_of}
 use Rattle.otlp_msg.specs.Walk.{Spot, IsInside, count, dangling, dictionary_spots, each_spots, entered, entry_holder, is_index, kind_of, lengths_in, message_spots, profile_spots, resource_spots, row_spots, scope_spots, spots, table_spots, within}
 use Rattle.otlp_msg.specs.Within.{Passed}
+use Rattle.otlp_msg.proofs.Plain.{plain_within}
 use Rattle.otlp_msg.proofs.Zeros.{fails}
 
 -- ---- the test of one index
@@ -141,7 +142,6 @@ row_inside len d l Fixed sound inner by field item v h = tt
 row_inside len d l Bytes sound inner by field item v h = tt
 row_inside len d l Text sound inner by field item v h = tt
 row_inside len d l (Any depth) sound inner by field item v h = tt
-row_inside len d l (Unbuilt k) sound inner by field item v h = tt
 row_inside len d l k sound inner by field item v h = inner tt (entered by field item) v h
 
 -- Where each index of a message is inside, each index of its tree is one of its table.
@@ -224,22 +224,22 @@ entries_inside m h T =
     by_table d h Stacks = table_inside (lengths_in d) (tables_in d) (has_lengths d) stack tt (lawful_from stack refl) (entry_sound Stacks) kind.Stack d.1.1.1.1.1.1.0 h.4
 
 -- the shape of a profile as it is read
-pub plain_sound : IsSound plain_profile
-plain_sound = search rules
+pub profile_sound : IsSound profile
+profile_sound = search rules
 
 -- each index of a profile
-profile_inside : (len : TableKind → ℕ) (d : Tables) → HasLengths len d → (r s p : ℕ) (v : Value plain_profile) → Each (IsInside len) (profile_spots r s p v) → IsWithin d plain_profile (tree plain_profile v)
-profile_inside len d l r s p v h = value_inside len d l plain_profile tt (lawful_from plain_profile refl) plain_sound (holder.Profile (record { resource = r; scope = s; profile = p })) v h
+profile_inside : (len : TableKind → ℕ) (d : Tables) → HasLengths len d → (r s p : ℕ) (v : Value profile) → Each (IsInside len) (profile_spots r s p v) → IsWithin d profile (tree profile v)
+profile_inside len d l r s p v h = value_inside len d l profile tt (lawful_from profile refl) profile_sound (holder.Profile (record { resource = r; scope = s; profile = p })) v h
 
 -- of the profiles of a scope
 scope_inside : (len : TableKind → ℕ) (d : Tables) → HasLengths len d → (r s : ℕ) (v : Value scope_profiles) → Each (IsInside len) (scope_spots r s v) → IsWithin d scope_profiles (tree scope_profiles v)
 scope_inside len d l r s v h =
-    (tt, (holds_listed (IsWithin d plain_profile) (map (tree plain_profile) v.1.0) (each_inside len (IsWithin d plain_profile) (tree plain_profile) (profile_spots r s) (profile_inside len d l r s) 0 v.1.0 h), (tt, tt)))
+    (plain_within d scope refl (tree scope v.0), (holds_listed (IsWithin d profile) (map (tree profile) v.1.0) (each_inside len (IsWithin d profile) (tree profile) (profile_spots r s) (profile_inside len d l r s) 0 v.1.0 h), (tt, tt)))
 
 -- and of a resource
 resource_inside : (len : TableKind → ℕ) (d : Tables) → HasLengths len d → (r : ℕ) (v : Value resource_profiles) → Each (IsInside len) (resource_spots r v) → IsWithin d resource_profiles (tree resource_profiles v)
 resource_inside len d l r v h =
-    (tt, (holds_listed (IsWithin d scope_profiles) (map (tree scope_profiles) v.1.0) (each_inside len (IsWithin d scope_profiles) (tree scope_profiles) (scope_spots r) (scope_inside len d l r) 0 v.1.0 h), (tt, tt)))
+    (plain_within d resource refl (tree resource v.0), (holds_listed (IsWithin d scope_profiles) (map (tree scope_profiles) v.1.0) (each_inside len (IsWithin d scope_profiles) (tree scope_profiles) (scope_spots r) (scope_inside len d l r) 0 v.1.0 h), (tt, tt)))
 
 -- each index of each record is one of its table
 pub records_inside : (m : Message) → Each (IsInside (lengths_in (dictionary_of m))) (message_spots m)

@@ -7,3 +7,4 @@ pub mod Lengths
 pub mod Places
 pub mod Walked
 pub mod Zeros
+pub mod Plain

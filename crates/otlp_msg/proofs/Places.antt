@@ -1,9 +1,9 @@
 -- A value whose spelling is short has its elements at places of 32 bits.
-use Rattle.std.proofs.Common.{◌≡◌, ℕ, zero, suc, ◌+◌, ◌^◌, ◌<◌, ◌≤◌, List, [], ◌∷◌, length, map, get_or, sym, ap, arith, subst, length-append}
+use Rattle.std.proofs.Common.{◌≡◌, ℕ, zero, suc, ◌+◌, ◌^◌, ◌<◌, ◌≤◌, List, [], ◌∷◌, length, map, get_or, sym, arith, subst, length-append}
 use Rattle.std.specs.Int.{w64, to_le_bytes}
 use Rattle.std.specs.List.{flat_map}
 use Rattle.schema.specs.AnySpell.{any_text}
-use Rattle.schema.specs.Shape.{Shape, Number, Fixed, Bytes, Text, Any, Index, Unbuilt, One, Many, I32, Value}
+use Rattle.schema.specs.Shape.{Shape, Number, Fixed, Bytes, Text, Any, Index, One, Many, I32, Value}
 use Rattle.schema.specs.Texts.{long_field, items_text, numbers_text, fixed_text, varint, number_to}
 use Rattle.schema.specs.Spell.{spell, spell_one, spell_many}
 use Rattle.schema.specs.Each.{Each}
@@ -41,7 +41,6 @@ many_count Fixed n xs fit = omega (arith, bytes_field_le n (fixed_text xs), piec
 many_count Bytes n xs fit = pieces_count (long_field n) (long_some n) xs
 many_count Text n xs fit = pieces_count (long_field n) (long_some n) xs
 many_count (Any depth) n xs fit = items_count n any_text xs
-many_count (Unbuilt k) n xs fit = omega (arith, ap length fit)
 many_count k n xs fit = items_count n (spell k) xs
 
 -- a singular row has no fewer bytes than the message in it
@@ -52,7 +51,6 @@ one_bytes Fixed n x = omega arith
 one_bytes Bytes n x = omega arith
 one_bytes Text n x = omega arith
 one_bytes (Any depth) n x = omega arith
-one_bytes (Unbuilt k) n x = omega arith
 one_bytes k n x = bytes_field_le n (spell k x)
 
 -- what is asked of an element
@@ -82,7 +80,6 @@ many_placed Fixed n xs fit short h = plain (IsPlaced Fixed) (λ x. (tt, omega ar
 many_placed Bytes n xs fit short h = plain (IsPlaced Bytes) (λ x. (tt, omega arith)) xs
 many_placed Text n xs fit short h = plain (IsPlaced Text) (λ x. (tt, omega arith)) xs
 many_placed (Any depth) n xs fit short h = plain (IsPlaced (Any depth)) (λ x. (tt, omega arith)) xs
-many_placed (Unbuilt k) n xs fit short h = plain (IsPlaced (Unbuilt k)) (λ x. (tt, omega arith)) xs
 many_placed k n xs fit short h = items_placed n (spell k) (λ y. Fits k y × (length (spell k y) < 2 ^ 64)) (IsPlaced k) (λ x f l. (h x f.0 l, l)) xs fit short
 
 -- a value that fits and is spelled with fewer bytes than 2^32 has its elements at places of 32 bits

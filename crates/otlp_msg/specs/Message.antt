@@ -3,14 +3,14 @@ use Rattle.std.specs.Prelude.{◌≡◌, ℕ, List, length, sum_by, if◌then◌
 use Rattle.schema.specs.Fault as faults
 use Rattle.schema.specs.Fault.{Fault}
 use Rattle.schema.specs.Merge.{merge}
-use Rattle.schema.specs.Messages.{envelope, resource_profiles, scope_profiles, plain_profile, dictionary}
+use Rattle.schema.specs.Messages.{envelope, resource_profiles, scope_profiles, profile, dictionary}
 use Rattle.schema.specs.Shape.{Value, empty}
 use Rattle.schema.specs.Steps.{◌>>=◌}
 use Rattle.pb_wire.specs.declared.fault.Reason.{Reason}
 use Rattle.pb_wire.specs.declared.fault.Reason.TheVariants as reasons
 use Rattle.dict_rec.specs.declared.dictionary.TableKind.{TableKind}
 use Rattle.otlp_msg.specs.declared.refusal.Refusal.{Refusal}
-use Rattle.otlp_msg.specs.declared.refusal.Refusal.TheVariants.{Size, Wire, ZeroEntry, Dangling, NotBuilt, NoMemory}
+use Rattle.otlp_msg.specs.declared.refusal.Refusal.TheVariants.{Size, Wire, ZeroEntry, Dangling, NoMemory}
 use Rattle.otlp_msg.specs.Walk.{lengths_in, message_spots, within}
 use Rattle.otlp_msg.specs.ZeroEntries.{all_tables, first_other}
 
@@ -29,7 +29,7 @@ abbrev pub dictionary_of : Message → Value dictionary
 dictionary_of m = m.1.0
 
 -- how many profiles, and how many samples, there are in some profiles, scopes and resources
-abbrev pub samples_in_profiles : List (Value plain_profile) → ℕ
+abbrev pub samples_in_profiles : List (Value profile) → ℕ
 samples_in_profiles profiles = sum_by (λ p. length p.1.0) profiles
 
 abbrev pub profiles_in_scopes : List (Value scope_profiles) → ℕ
@@ -56,7 +56,6 @@ refusal_at place faults.WireType = wire_refusal place reasons.WireType
 refusal_at place faults.NotUtf8 = wire_refusal place reasons.NotUtf8
 refusal_at place faults.PackedLength = wire_refusal place reasons.PackedLength
 refusal_at place faults.TooDeep = wire_refusal place reasons.TooDeep
-refusal_at place faults.NotBuilt = NotBuilt place
 
 -- the tests on what was read: an index that is in no table, where each table begins with its zero entry
 abbrev pub with_indexes : Message → Result Message Refusal
@@ -81,5 +80,4 @@ IsRefusal want (Size len) = want ≡ Err (Size len)
 IsRefusal want (Wire fault) = want ≡ Err (Wire fault)
 IsRefusal want (ZeroEntry table) = want ≡ Err (ZeroEntry table)
 IsRefusal want (Dangling table index len path) = want ≡ Err (Dangling table index len path)
-IsRefusal want (NotBuilt place) = want ≡ Err (NotBuilt place)
 IsRefusal want NoMemory = Unit {0}

@@ -2,9 +2,8 @@
 use Rattle.pb_wire.specs.declared.fault.ReadFault.{ReadFault}
 use Rattle.pb_wire.specs.declared.fault.ReadFault.TheVariants as faults
 use Rattle.otlp_msg.specs.declared.refusal.Refusal.{Refusal}
-use Rattle.otlp_msg.specs.declared.refusal.Refusal.TheVariants.{Wire, NotBuilt, NoMemory}
+use Rattle.otlp_msg.specs.declared.refusal.Refusal.TheVariants.{Wire, NoMemory}
 
 abbrev pub refusal_of : ReadFault → Refusal
 refusal_of (faults.Wire f) = Wire f
-refusal_of (faults.NotBuilt place) = NotBuilt place
 refusal_of faults.NoMemory = NoMemory

@@ -10,7 +10,7 @@ use Rattle.otlp_msg.specs.declared.path.Holder.TheVariants as holder
 use Rattle.otlp_msg.specs.declared.path.Path.{Path}
 use Rattle.otlp_msg.specs.declared.path.ProfilePos.{ProfilePos}
 use Rattle.otlp_msg.specs.declared.refusal.Refusal.{Refusal}
-use Rattle.otlp_msg.specs.declared.refusal.Refusal.TheVariants.{Size, Wire, ZeroEntry, Dangling, NotBuilt, NoMemory}
+use Rattle.otlp_msg.specs.declared.refusal.Refusal.TheVariants.{Size, Wire, ZeroEntry, Dangling, NoMemory}
 
 -- the name of a reason: its variant's
 abbrev pub reason_name : Reason → List ℕ
@@ -60,5 +60,4 @@ refusal_text (Wire fault) = codes "wire fault " ++ (reason_name fault.reason ++ 
 refusal_text (ZeroEntry table) = codes "zero entry of " ++ (table_name table ++ codes " table is not zero")
 refusal_text (Dangling table index len path) =
     codes "dangling " ++ (table_name table ++ (codes " index " ++ (signed_decimal index ++ (codes " of " ++ (decimal len ++ (codes " in " ++ path_text path))))))
-refusal_text (NotBuilt place) = codes "not built at " ++ decimal place
 refusal_text NoMemory = codes "no memory"

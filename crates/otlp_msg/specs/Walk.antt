@@ -1,7 +1,7 @@
 -- The indexes of a message in the order of the walk, and where each stands. (opentelemetry-proto,
 -- `profiles/v1development/profiles.proto`, says of each index field which table it points into.)
 use Rattle.std.specs.Prelude.{ℕ, suc, ℤ, pos, negsuc, List, [], ◌∷◌, ◌++◌, length, Bool, false, nat_lt, ◌==◌, if◌then◌else◌, Result, Ok, Err}
-use Rattle.schema.specs.Messages.{mapping, location, function, attribute, stack, plain_profile, scope_profiles, resource_profiles, dictionary, envelope}
+use Rattle.schema.specs.Messages.{mapping, location, function, attribute, stack, profile, scope_profiles, resource_profiles, dictionary, envelope}
 use Rattle.schema.specs.Shape.{Shape, Index, One, Many, Value, Table, Mappings, Locations, Functions, Links, Strings, Attributes, Stacks}
 use Rattle.meaning.specs.Canonical.{IsIndex}
 use Rattle.dict_rec.specs.declared.dictionary.TableKind.{TableKind}
@@ -60,12 +60,13 @@ spots (One n k rest) by v = row_spots k by n 0 (spots k) v.0 ++ spots rest by v.
 spots (Many n k rest) by v = each_spots (λ i. row_spots k by n i (spots k)) 0 v.0 ++ spots rest by v.1
 spots s by v = []
 
--- the holder that an entry of a table is; links and strings hold no index
+-- the holder that an entry of a table is; links and strings hold no index, so it is not asked of them
 abbrev pub entry_holder : TableKind → ℕ → Holder
 entry_holder kind.Mapping entry = holder.Mapping entry
 entry_holder kind.Location entry = holder.Location entry
 entry_holder kind.Function entry = holder.Function entry
 entry_holder kind.Attribute entry = holder.Attr entry
+entry_holder kind.Stack entry = holder.Stack entry
 entry_holder table entry = holder.Stack entry
 
 -- of the tables in the order of the dictionary's fields
@@ -81,8 +82,8 @@ dictionary_spots d =
     ++ table_spots stack kind.Stack d.1.1.1.1.1.1.0)))
 
 -- of the records
-abbrev pub profile_spots : ℕ → ℕ → ℕ → Value plain_profile → List Spot
-profile_spots r s p v = spots plain_profile (holder.Profile (record { resource = r; scope = s; profile = p })) v
+abbrev pub profile_spots : ℕ → ℕ → ℕ → Value profile → List Spot
+profile_spots r s p v = spots profile (holder.Profile (record { resource = r; scope = s; profile = p })) v
 
 abbrev pub scope_spots : ℕ → ℕ → Value scope_profiles → List Spot
 scope_spots r s v = each_spots (profile_spots r s) 0 v.1.0

@@ -1,10 +1,13 @@
 //! A message that was accepted.
+ghost use Rattle.std.proofs.Props.{props};
+ghost use Rattle.std.specs.Coded.{codes};
 ghost use Rattle.std.specs.Prelude.{◌≡◌, ◌<◌, Ok, All};
+ghost use Rattle.any_value.specs.Codes.{any_code};
 ghost use Rattle.otlp_msg.specs.Message.{message_of};
 ghost use Rattle.otlp_msg.specs.Views.{message_view};
 
 use crate::Message;
-use crate::counts::profiles_in_resources;
+use crate::counts::{profiles_in_resources, samples_in_resources};
 
 /// A message that was accepted, beside the bytes that it was read from.
 #[derive(Debug, Drop)]
@@ -12,7 +15,7 @@ pub struct Checked<'a> {
     pub(crate) body: &'a [u8],
     pub(crate) message: Message,
     ghost octets: { All (λ b. b < 256) body.now },
-    pub ghost read: { message_of body.now ≡ Ok (message_view message) },
+    pub ghost read: { message_of body.now ≡ Ok (message_view message) } by { Prim.hlevel (props, codes, any_code) },
 }
 
 impl<'a> Checked<'a> {
@@ -42,7 +45,7 @@ impl<'a> Checked<'a> {
     /// it. Each table begins with its zero entry, and each index, of an entry or of a record, is in its table.
     pub fn message(&self) -> &Message
         ensures value { message_view result.now ≡ value_of self.now }
-        ensures short { length (spell envelope (value_of self.now)) < 2 ^ 62 }
+        ensures short { length (spell envelope (value_of self.now)) < 2 ^ 60 }
         ensures fits { Fits envelope (value_of self.now) }
         ensures zeros { HasZeros (tables_in (dictionary_of (value_of self.now))) }
         ensures entries { (T : Table) → let d = tables_in (dictionary_of (value_of self.now)) in Each (IsWithin d (entry T)) (d T) }
@@ -58,10 +61,10 @@ impl<'a> Checked<'a> {
         profiles_in_resources(self.message().records.as_slice())
     }
 
-    /// The number of samples of all profiles. It takes no memory. No sample is read yet.
+    /// The number of samples of all profiles. It takes no memory.
     pub fn sample_count(&self) -> u64
         ensures { result ≡ samples_of (value_of self.now) }
     {
-        0
+        samples_in_resources(self.message().records.as_slice())
     }
 }

@@ -1,7 +1,6 @@
 //! What it means that bytes are a message, in the words of the encoding and of the schema. The law stands on a public
 //! function with no body; its lemmas are in `proofs/`.
 ghost use Rattle.std.specs.Prelude.{◌≡◌, ◌↔◌, ◌<◌, ◌≤◌, ℕ, ℤ, List, length, Ok, Err};
-ghost use Rattle.schema.specs.Fault.{fault_at, NotBuilt as not_built_yet};
 ghost use Rattle.schema.specs.MessageFault.{HasFault};
 ghost use Rattle.schema.specs.Messages.{envelope};
 ghost use Rattle.pb_wire.specs.View.{fault_view};
@@ -10,7 +9,7 @@ ghost use Rattle.otlp_msg.specs.Acceptance.{IsAccepted, IsNotZero, IsDangling};
 ghost use Rattle.otlp_msg.specs.Message.{Message, message_of, message_limit};
 ghost use Rattle.dict_rec.specs.declared.dictionary.TableKind.{TableKind};
 ghost use Rattle.otlp_msg.specs.declared.path.Path.{Path};
-ghost use Rattle.otlp_msg.specs.declared.refusal.Refusal.TheVariants.{Size, Wire, ZeroEntry, Dangling, NotBuilt, NoMemory};
+ghost use Rattle.otlp_msg.specs.declared.refusal.Refusal.TheVariants.{Size, Wire, ZeroEntry, Dangling, NoMemory};
 
 /// Bytes are a message exactly if they are accepted, and each refusal says exactly what is wrong with them: there are too
 /// many, else they have this first fault, else this is their first table that doesn't begin with its zero entry, else this
@@ -19,7 +18,6 @@ pub fn accepts_exactly()
     ensures accepted { (body : List ℕ) → (m : Message) → (message_of body ≡ Ok m) ↔ IsAccepted body m }
     ensures size { (body : List ℕ) → (len : ℕ) → (message_of body ≡ Err (Size len)) ↔ ((message_limit < length body) × (len ≡ length body)) }
     ensures wire { (body : List ℕ) → (f : WireFault) → (message_of body ≡ Err (Wire f)) ↔ ((length body ≤ message_limit) × HasFault envelope 0 body (fault_view f)) }
-    ensures not_built { (body : List ℕ) → (place : ℕ) → (message_of body ≡ Err (NotBuilt place)) ↔ ((length body ≤ message_limit) × HasFault envelope 0 body (fault_at place not_built_yet)) }
     ensures zero_entry { (body : List ℕ) → (table : TableKind) → (message_of body ≡ Err (ZeroEntry table)) ↔ IsNotZero body table }
     ensures dangling { (body : List ℕ) → (table : TableKind) → (index : ℤ) → (len : ℕ) → (path : Path) → (message_of body ≡ Err (Dangling table index len path)) ↔ IsDangling body table index len path }
     ensures no_memory { (body : List ℕ) → ¬ (message_of body ≡ Err NoMemory) }

@@ -3,6 +3,8 @@
 
 mod checked;
 mod counts;
+#[cfg(test)]
+mod hostile_tests;
 mod indexed;
 mod indexed_entries;
 mod indexed_records;

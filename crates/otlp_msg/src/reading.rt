@@ -44,7 +44,6 @@ fn refusal_of(fault: ReadFault) -> Refusal
 {
     match fault {
         ReadFault::Wire(fault) => Refusal::Wire(fault),
-        ReadFault::NotBuilt { place } => Refusal::NotBuilt { place },
         ReadFault::NoMemory => Refusal::NoMemory,
     }
 }

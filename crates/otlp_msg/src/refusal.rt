@@ -28,10 +28,6 @@ pub enum Refusal {
         len: u64,
         path: Path,
     },
-    /// A field that this program does not read yet; the place is that of its tag.
-    NotBuilt {
-        place: u64,
-    },
     NoMemory,
 }
 
@@ -50,7 +46,6 @@ impl Refusal {
                 len,
                 path,
             } => dangling_text(alloc, table, index, len, path),
-            Refusal::NotBuilt { place } => not_built_text(alloc, place),
             Refusal::NoMemory => Text::copy_of(alloc, "no memory"),
         }
     }
@@ -152,13 +147,6 @@ fn sample_text(alloc: Global, pos: ProfilePos, sample: u32) -> Result<Text, NoMe
     let scope = pos.scope;
     let profile = pos.profile;
     let text = format!(in alloc; "profile {resource}/{scope}/{profile} sample {sample}")?;
-    Ok(Text::from_string(text))
-}
-
-fn not_built_text(alloc: Global, place: u64) -> Result<Text, NoMemory>
-    ensures { IfOk result (λ t. t ≡ refusal_text (Refusal.NotBuilt place)) }
-{
-    let text = format!(in alloc; "not built at {place}")?;
     Ok(Text::from_string(text))
 }
 

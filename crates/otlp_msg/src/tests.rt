@@ -2,13 +2,18 @@
 //! schema.
 use super::*;
 use dict_rec::TableKind;
-use pb_wire::{Blob, Piece, Pieces, Reason, Wire, WireFault};
+use pb_wire::{Blob, Piece, Pieces, ReadFault, Reason, Wire, WireFault};
 use std::alloc::Global;
 use std::process::Abort;
 use std::test::Fail;
 
 // Asserts that the bytes are refused with this text.
-fn assert_refused(rt: &impl Abort, alloc: Global, body: &[u8], want: &str) -> Result<(), Fail> {
+pub(crate) fn assert_refused(
+    rt: &impl Abort,
+    alloc: Global,
+    body: &[u8],
+    want: &str,
+) -> Result<(), Fail> {
     match read_message(alloc, body) {
         Ok(_) => assert_eq!(rt; "accepted", want),
         Err(refusal) => assert_eq!(rt; refusal.text(alloc)?.as_str(), want),
@@ -52,10 +57,6 @@ fn refuses(rt: HostRuntime) -> Result<(), Fail> {
             b"\x12\x06\x12\x00\x12\x02\x08\x05\x0b",
             "wire fault WireType at 8",
         ),
-        // A profile's samples, an attribute's value, and a resource.
-        (b"\x0a\x06\x12\x04\x12\x02\x12\x00", "not built at 6"),
-        (b"\x12\x04\x32\x02\x12\x00", "not built at 4"),
-        (b"\x0a\x02\x0a\x00", "not built at 2"),
     ] {
         assert_refused(&rt, alloc, body, want)?;
     }
@@ -63,7 +64,7 @@ fn refuses(rt: HostRuntime) -> Result<(), Fail> {
 }
 
 // A first entry that isn't zero, in each table: a field that isn't its default, also where it is an index, an empty line,
-// one byte of an identifier, and a list of one index 0.
+// one byte of an identifier, and a list of one index 0. A value is its default only where it is empty.
 #[test]
 fn refuses_zero_entries(rt: HostRuntime) -> Result<(), Fail> {
     let alloc = rt.alloc();
@@ -74,6 +75,9 @@ fn refuses_zero_entries(rt: HostRuntime) -> Result<(), Fail> {
         (b"\x12\x05\x22\x03\x0a\x01\x00", "link"),
         (b"\x12\x03\x2a\x01x", "string"),
         (b"\x12\x04\x32\x02\x08\x01", "attribute"),
+        (b"\x12\x06\x32\x04\x12\x02\x10\x00", "attribute"),
+        (b"\x12\x06\x32\x04\x12\x02\x0a\x00", "attribute"),
+        (b"\x12\x06\x32\x04\x12\x02\x2a\x00", "attribute"),
         (b"\x12\x04\x3a\x02\x08\x00", "stack"),
         // The first in the order of the fields' numbers.
         (b"\x12\x08\x3a\x02\x08\x00\x0a\x02\x10\x06", "mapping"),
@@ -176,6 +180,33 @@ fn refuses_indexes(rt: HostRuntime) -> Result<(), Fail> {
             b"\x0a\x00\x0a\x0c\x12\x00\x12\x08\x12\x00\x12\x04\x2a\x02\x10\x03",
             "string index 3 of 1 in profile 1/1/1 period type field 2 item 0",
         ),
+        // A sample's stack, its attributes packed and each by itself, also in a table of two, and its link, also below 0.
+        (
+            b"\x0a\x08\x12\x06\x12\x04\x12\x02\x08\x01",
+            "stack index 1 of 1 in profile 0/0/0 sample 0 field 1 item 0",
+        ),
+        (
+            b"\x0a\x0a\x12\x08\x12\x06\x12\x04\x1a\x02\x00\x01",
+            "attribute index 1 of 1 in profile 0/0/0 sample 0 field 3 item 1",
+        ),
+        (
+            b"\x0a\x0c\x12\x0a\x12\x08\x12\x00\x12\x04\x18\x00\x18\x02\x12\x04\x32\x00\x32\x00",
+            "attribute index 2 of 2 in profile 0/0/0 sample 1 field 3 item 1",
+        ),
+        (
+            b"\x0a\x08\x12\x06\x12\x04\x12\x02\x20\x01",
+            "link index 1 of 1 in profile 0/0/0 sample 0 field 4 item 0",
+        ),
+        (
+            b"\x0a\x11\x12\x0f\x12\x0d\x12\x0b\x20\xff\xff\xff\xff\xff\xff\xff\xff\xff\x01\
+            \x12\x06\x22\x00\x22\x00\x22\x00",
+            "link index -1 of 3 in profile 0/0/0 sample 0 field 4 item 0",
+        ),
+        // A profile's attributes.
+        (
+            b"\x0a\x09\x12\x07\x12\x05\x5a\x03\x00\x00\x04",
+            "attribute index 4 of 1 in profile 0/0/0 field 11 item 2",
+        ),
         // The tables come before the records, and of them the first in the order of the fields' numbers.
         (
             b"\x0a\x08\x12\x06\x12\x04\x0a\x02\x08\x09\x12\x06\x12\x00\x12\x02\x08\x05",
@@ -198,6 +229,16 @@ fn refuses_indexes(rt: HostRuntime) -> Result<(), Fail> {
             b"\x0a\x0c\x12\x0a\x12\x08\x2a\x02\x08\x04\x0a\x02\x08\x05",
             "string index 5 of 1 in profile 0/0/0 sample type field 1 item 0",
         ),
+        // Of a profile the samples come before the period type and the attributes, and of a sample the attributes before
+        // the link.
+        (
+            b"\x0a\x0e\x12\x0c\x12\x0a\x58\x09\x2a\x02\x08\x04\x12\x02\x08\x07",
+            "stack index 7 of 1 in profile 0/0/0 sample 0 field 1 item 0",
+        ),
+        (
+            b"\x0a\x0d\x12\x0b\x12\x09\x12\x07\x20\x05\x1a\x01\x06\x08\x00",
+            "attribute index 6 of 1 in profile 0/0/0 sample 0 field 3 item 0",
+        ),
     ] {
         let want = format!(in alloc; "dangling {want}")?;
         assert_refused(&rt, alloc, body, want.as_str())?;
@@ -215,7 +256,7 @@ fn refuses_a_long_file(rt: HostRuntime) -> Result<(), Fail> {
     assert_refused(&rt, alloc, whole, "wire fault FieldNumber at 0")
 }
 
-// The texts that no bytes give yet, and that of want of memory.
+// The texts of greatest numbers, and that of want of memory.
 #[test]
 fn says_why(rt: HostRuntime) -> Result<(), Fail> {
     let alloc = rt.alloc();
@@ -235,7 +276,6 @@ fn says_why(rt: HostRuntime) -> Result<(), Fail> {
             at(u64::MAX, Reason::PackedLength),
             "wire fault PackedLength at 18446744073709551615",
         ),
-        (at(1000, Reason::TooDeep), "wire fault TooDeep at 1000"),
         (
             Refusal::Dangling {
                 table: TableKind::Stack,
@@ -277,19 +317,21 @@ fn says_why(rt: HostRuntime) -> Result<(), Fail> {
 #[test]
 fn accepts(rt: HostRuntime) -> Result<(), Fail> {
     let alloc = rt.alloc();
-    // The bytes, the canonical bytes of their message, and the number of its profiles.
-    for (body, written, profiles) in [
-        (b"".as_slice(), b"".as_slice(), 0),
+    // The bytes, the canonical bytes of their message, and the numbers of its profiles and samples.
+    for (body, written, profiles, samples) in [
+        (b"".as_slice(), b"".as_slice(), 0, 0),
         // An unknown field and a dictionary of the wrong wire type are skipped, and so is such a field of a profile.
         (
             b"\x50\x01\x0a\x04\x12\x02\x12\x00\x10\x07",
             b"\x0a\x04\x12\x02\x12\x00",
             1,
+            0,
         ),
         (
             b"\x0a\x06\x12\x04\x12\x02\x22\x00",
             b"\x0a\x04\x12\x02\x12\x00",
             1,
+            0,
         ),
         // The plain fields of a profile in another order: the last format and the last duration win, of the count the low 32
         // bits are read, and a time that is a varint is skipped.
@@ -299,11 +341,13 @@ fn accepts(rt: HostRuntime) -> Result<(), Fail> {
             b"\x0a\x26\x12\x24\x12\x22\x19\x01\x00\x00\x00\x00\x00\x00\x00\x20\x05\
             \x30\xff\xff\xff\xff\xff\xff\xff\xff\xff\x01\x3a\x02\x01\x02\x40\x07\x4a\x01x\x52\x01\x00",
             1,
+            0,
         ),
         // A dictionary in two pieces is joined.
         (
             b"\x12\x02\x2a\x00\x12\x05\x2a\x03cpu",
             b"\x12\x07\x2a\x00\x2a\x03cpu",
+            0,
             0,
         ),
         // Fields in another order, and a length of two bytes.
@@ -311,11 +355,45 @@ fn accepts(rt: HostRuntime) -> Result<(), Fail> {
             b"\x12\x04\x3a\x00\x0a\x00\x0a\x80\x00",
             b"\x0a\x00\x12\x04\x0a\x00\x3a\x00",
             0,
+            0,
         ),
         // A zero entry whose fields hold their defaults, and the index 0 into a table that is absent.
         (
             b"\x12\x0a\x0a\x04\x10\x00\x20\x00\x12\x02\x08\x00",
             b"\x12\x04\x0a\x00\x12\x00",
+            0,
+            0,
+        ),
+        // A zero entry whose value is empty: one that is written so, and one of which each field is skipped.
+        (b"\x12\x04\x32\x02\x12\x00", b"\x12\x02\x32\x00", 0, 0),
+        (
+            b"\x12\x06\x32\x04\x12\x02\x48\x01",
+            b"\x12\x02\x32\x00",
+            0,
+            0,
+        ),
+        // A second entry with a value: a list in two fields of one entry.
+        (
+            b"\x12\x14\x32\x00\x32\x10\x18\x00\x12\x04\x2a\x02\x0a\x00\x12\x04\x2a\x02\x0a\x00\x10\x05",
+            b"\x12\x0c\x32\x00\x32\x08\x12\x06\x2a\x04\x0a\x00\x0a\x00",
+            0,
+            0,
+        ),
+        // A resource record and a scope record with all rows in another order than that of their numbers, and opaque elements
+        // that keep theirs, also an empty one.
+        (
+            b"\x0a\x27\x1a\x01u\x12\x11\x1a\x01s\x12\x00\x0a\x0a\x20\x04\x1a\x00\x12\x01\x32\x0a\x01n\
+            \x0a\x0f\x1a\x02\xff\x00\x1a\x00\x10\x03\x0a\x05\x0a\x01a\x12\x00",
+            b"\x0a\x25\x0a\x0d\x0a\x03\x0a\x01a\x10\x03\x1a\x02\xff\x00\x1a\x00\
+            \x12\x11\x0a\x0a\x0a\x01n\x12\x01\x32\x1a\x00\x20\x04\x12\x00\x1a\x01s\x1a\x01u",
+            1,
+            0,
+        ),
+        // A resource in two pieces: its attributes and opaque elements one list after the other, and the last count.
+        (
+            b"\x0a\x14\x0a\x07\x10\x03\x0a\x00\x1a\x01x\x0a\x09\x1a\x00\x0a\x03\x0a\x01a\x10\x04",
+            b"\x0a\x10\x0a\x0e\x0a\x00\x0a\x03\x0a\x01a\x10\x04\x1a\x01x\x1a\x00",
+            0,
             0,
         ),
         // The last index of a table, in a sample type, in a line and in a stack.
@@ -323,16 +401,37 @@ fn accepts(rt: HostRuntime) -> Result<(), Fail> {
             b"\x0a\x0a\x12\x08\x12\x06\x0a\x04\x08\x02\x10\x03\x12\x10\x2a\x00\x2a\x03cpu\x2a\x03cpu\x2a\x02ns",
             b"\x0a\x0a\x12\x08\x12\x06\x0a\x04\x08\x02\x10\x03\x12\x10\x2a\x00\x2a\x03cpu\x2a\x03cpu\x2a\x02ns",
             1,
+            0,
         ),
         (
             b"\x12\x13\x3a\x00\x3a\x03\x0a\x01\x01\x12\x00\x12\x04\x1a\x02\x08\x01\x1a\x00\x1a\x00",
             b"\x12\x13\x12\x00\x12\x04\x1a\x02\x08\x01\x1a\x00\x1a\x00\x3a\x00\x3a\x03\x0a\x01\x01",
+            0,
             0,
         ),
         // Two resources: a scope of one profile and a scope of two, and a scope of none.
         (
             b"\x0a\x0a\x12\x02\x12\x00\x12\x04\x12\x00\x12\x00\x0a\x02\x12\x00",
             b"\x0a\x0a\x12\x02\x12\x00\x12\x04\x12\x00\x12\x00\x0a\x02\x12\x00",
+            3,
+            0,
+        ),
+        // Two samples of two stacks; a scope of a profile with one sample, and a scope of two profiles, of which the second
+        // has two, of which one is empty. Values and times are no indexes, and unpacked ones are packed.
+        (
+            b"\x0a\x12\x12\x10\x12\x0e\x12\x05\x08\x01\x12\x01\x07\x12\x05\x08\x02\x12\x01\x08\
+            \x12\x16\x12\x00\x12\x02\x10\x10\x12\x02\x10\x10\x3a\x00\x3a\x03\x0a\x01\x01\x3a\x03\x0a\x01\x02",
+            b"\x0a\x12\x12\x10\x12\x0e\x12\x05\x08\x01\x12\x01\x07\x12\x05\x08\x02\x12\x01\x08\
+            \x12\x16\x12\x00\x12\x02\x10\x10\x12\x02\x10\x10\x3a\x00\x3a\x03\x0a\x01\x01\x3a\x03\x0a\x01\x02",
+            1,
+            2,
+        ),
+        (
+            b"\x0a\x21\x12\x06\x12\x04\x12\x02\x10\x09\x12\x17\x12\x00\x12\x13\x12\x0f\x10\x09\x10\x63\
+            \x29\x01\x00\x00\x00\x00\x00\x00\x00\x18\x00\x12\x00",
+            b"\x0a\x24\x12\x07\x12\x05\x12\x03\x12\x01\x09\x12\x19\x12\x00\x12\x15\x12\x11\x12\x02\x09\x63\x1a\x01\x00\
+            \x2a\x08\x01\x00\x00\x00\x00\x00\x00\x00\x12\x00",
+            3,
             3,
         ),
     ] {
@@ -342,7 +441,7 @@ fn accepts(rt: HostRuntime) -> Result<(), Fail> {
         checked.message().write(&mut out)?;
         assert_eq!(rt; out.as_slice(), written, "of {body:?}");
         assert_eq!(rt; checked.profile_count(), profiles, "of {body:?}");
-        assert_eq!(rt; checked.sample_count(), 0, "of {body:?}");
+        assert_eq!(rt; checked.sample_count(), samples, "of {body:?}");
     }
     Ok(())
 }
@@ -362,5 +461,18 @@ fn joins_pieces(rt: HostRuntime) -> Result<(), Fail> {
     let message = Message::read(alloc, &pieces)?;
     assert_eq!(rt; message.records.len(), 1);
     assert_eq!(rt; message.dictionary.string_table.len(), 2);
+    // The schema URL begins six bytes behind the place of its piece.
+    pieces.add(Piece {
+        bytes: b"\x0a\x00\x50\x01\x0a\x03\x1a\x01\xff",
+        base: 100,
+    })?;
+    let fault = WireFault {
+        place: 106,
+        reason: Reason::NotUtf8,
+    };
+    assert_eq!(rt;
+        Message::read(alloc, &pieces).err(),
+        Some(ReadFault::Wire(fault))
+    );
     Ok(())
 }

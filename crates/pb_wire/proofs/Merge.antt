@@ -20,7 +20,6 @@ is_empty bytes e = eqb-true _ _ (sym e)
 -- a step that failed is the failure of the whole
 pub fault_bind : {S T : Type 0} (e : ReadFault) (r : Result S Fault) (f : S → Result T Fault) (whole : Result T Fault) → (r >>= f) ≡ whole → IsFault e r → IsFault e whole
 fault_bind {S = S} errors.NoMemory r f whole h g = tt
-fault_bind {S = S} (errors.NotBuilt place) r f whole h g = sym h ∙ ap (λ (q : Result S Fault). q >>= f) g
 fault_bind {S = S} (errors.Wire x) r f whole h g = sym h ∙ ap (λ (q : Result S Fault). q >>= f) g
 
 -- and a step that went well leaves what is still to come

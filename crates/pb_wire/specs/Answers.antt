@@ -1,11 +1,11 @@
 -- What calls answer, against what the definitions of `schema` say.
 use Rattle.std.specs.Prelude.{◌≡◌, ℕ, ◌+◌, ◌<◌, ◌≤◌, ◌++◌, List, length, drop, Result, Ok, Err, Option, Some, None}
 use Rattle.schema.specs.Fault as faults
-use Rattle.schema.specs.Fault.{Fault, fault_at}
+use Rattle.schema.specs.Fault.{Fault}
 use Rattle.schema.specs.Steps.{field_at}
 use Rattle.pb_wire.specs.declared.fault.Reason.{Reason}
 use Rattle.pb_wire.specs.declared.fault.ReadFault.{ReadFault}
-use Rattle.pb_wire.specs.declared.fault.ReadFault.TheVariants.{Wire, NotBuilt, NoMemory}
+use Rattle.pb_wire.specs.declared.fault.ReadFault.TheVariants.{Wire, NoMemory}
 use Rattle.pb_wire.specs.declared.fault.WireFault.{WireFault}
 use Rattle.pb_wire.specs.declared.field.Field.{Field}
 use Rattle.pb_wire.specs.View.{field_view, reason_view, fault_view}
@@ -18,7 +18,6 @@ Gives view (Err reason) want = want ≡ Err (reason_view reason)
 -- the fault is the one that is wanted, or memory was wanting
 abbrev pub IsFault : {S : Type 0} → ReadFault → Result S Fault → Type 0
 IsFault NoMemory want = Unit {0}
-IsFault (NotBuilt place) want = want ≡ Err (fault_at place faults.NotBuilt)
 IsFault (Wire f) want = want ≡ Err (fault_view f)
 
 -- memory was not wanting

@@ -35,8 +35,6 @@ pub struct WireFault {
 #[derive(Clone, Copy, Debug, PartialEq, Eq)]
 pub enum ReadFault {
     Wire(WireFault),
-    /// A field fits a row of the schema that this program does not read yet; the place is that of its tag.
-    NotBuilt { place: u64 },
     NoMemory,
 }
 

@@ -44,8 +44,8 @@ pub use put_rows::{
 };
 pub use repeated::Repeated;
 pub use take::{
-    RowType, add_bytes, add_fixed, add_message, add_number, add_text, refuse_many, refuse_one,
-    take_bytes, take_fixed, take_message, take_number, take_text, text_of,
+    add_bytes, add_fixed, add_message, add_number, add_text, take_bytes, take_fixed, take_message,
+    take_number, take_text, text_of,
 };
 pub use text::Text;
 pub use wire::Wire;

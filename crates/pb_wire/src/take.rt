@@ -4,9 +4,7 @@ ghost use Rattle.std.specs.Prelude.{◌≡◌, ◌<◌, ◌≤◌, ◌^◌, leng
 ghost use Rattle.schema.specs.Field.{bytes_of};
 ghost use Rattle.schema.specs.Merge.{one_number, one_fixed, one_bytes, take_one, take_many, more_packed, more_numbers, more_fixed, more_packed_fixed, more_bytes, more_texts, packed_reason as packed_reason_of, take_field};
 ghost use Rattle.schema.specs.Run.{one_text, text_of as text_at};
-ghost use Rattle.schema.specs.Shape.{fits_one};
 ghost use Rattle.pb_wire.specs.Answers.{Reads, TakesNone, Took};
-ghost use Rattle.pb_wire.specs.RowTypes.{shape_of, RefusesOne, RefusesMany};
 ghost use Rattle.pb_wire.specs.View.{payload_view, reason_view};
 
 use crate::next::varint;
@@ -216,49 +214,4 @@ pub fn add_text(
         }
         _ => Ok(()),
     }
-}
-
-/// The wire type of a row's shape.
-#[derive(Clone, Copy)]
-pub enum RowType {
-    Varint,
-    Fixed64,
-    Bytes,
-}
-
-// Whether the payload has the wire type of the row.
-#[inline]
-fn has_type(row: RowType, payload: &Payload<'_>) -> bool
-    ensures { result ≡ fits_one (shape_of row) (payload_view payload.now) }
-{
-    match (row, payload) {
-        (RowType::Varint, Payload::Varint(_)) => true,
-        (RowType::Fixed64, Payload::Fixed64(_)) => true,
-        (RowType::Bytes, Payload::Bytes(_)) => true,
-        _ => false,
-    }
-}
-
-/// Refuses an occurrence that fits a singular row which this program does not read yet. It takes no memory.
-#[inline]
-pub fn refuse_one(row: RowType, field: &Field<'_>) -> Result<(), ReadFault>
-    ensures refused { RefusesOne row field.now.at (payload_view field.now.payload) result }
-    ensures no_memory { TakesNone result }
-{
-    if has_type(row, &field.payload) {
-        return Err(ReadFault::NotBuilt { place: field.at });
-    }
-    Ok(())
-}
-
-/// Refuses an occurrence that fits a repeated row which this program does not read yet. It takes no memory.
-#[inline]
-pub fn refuse_many(row: RowType, field: &Field<'_>) -> Result<(), ReadFault>
-    ensures refused { RefusesMany row field.now.at (payload_view field.now.payload) result }
-    ensures no_memory { TakesNone result }
-{
-    if has_type(row, &field.payload) || has_type(RowType::Bytes, &field.payload) {
-        return Err(ReadFault::NotBuilt { place: field.at });
-    }
-    Ok(())
 }

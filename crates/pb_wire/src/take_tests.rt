@@ -134,37 +134,3 @@ fn finds_faults_of_rows(rt: HostRuntime) {
         assert_eq!(rt; read.err(), Some(fault), "{bytes:?}");
     }
 }
-
-// A singular row, its payload, and whether a singular and a repeated row refuse it.
-#[test]
-fn refuses_rows(rt: HostRuntime) {
-    let rows = [
-        (RowType::Varint, Payload::Varint(0), true, true),
-        (RowType::Varint, Payload::Bytes(b""), false, true),
-        (RowType::Varint, Payload::Fixed32([0; 4]), false, false),
-        (RowType::Fixed64, Payload::Fixed64([0; 8]), true, true),
-        (RowType::Fixed64, Payload::Varint(0), false, false),
-        (RowType::Bytes, Payload::Bytes(b""), true, true),
-        (RowType::Bytes, Payload::Fixed64([0; 8]), false, false),
-    ];
-    for (row, payload, one, many) in rows {
-        let field = Field {
-            number: 1,
-            at: 9,
-            end: 30,
-            payload,
-        };
-        let refused = Err(ReadFault::NotBuilt { place: 9 });
-        let skipped = Ok(());
-        assert_eq!(rt;
-            refuse_one(row, &field),
-            if one { refused } else { skipped },
-            "{payload:?}"
-        );
-        assert_eq!(rt;
-            refuse_many(row, &field),
-            if many { refused } else { skipped },
-            "{payload:?}"
-        );
-    }
-}

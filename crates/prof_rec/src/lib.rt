@@ -1,15 +1,21 @@
-//! The records of a message: resources, scopes and profiles. Each record has a public field for each row of the schema that
-//! is read, under the row's name.
+//! The records of a message: resources, scopes and profiles. Each record has a public field for each row of the schema, under
+//! the row's name.
 #![tactic(auto)]
 
 mod profile;
+mod resource;
 mod resource_profiles;
+mod sample;
+mod scope;
 mod scope_profiles;
 #[cfg(test)]
 mod tests;
 mod value_type;
 
 pub use profile::Profile;
+pub use resource::Resource;
 pub use resource_profiles::{ResourceList, ResourceProfiles};
+pub use sample::Sample;
+pub use scope::Scope;
 pub use scope_profiles::ScopeProfiles;
 pub use value_type::ValueType;

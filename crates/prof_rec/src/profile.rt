@@ -1,22 +1,24 @@
 //! A profile.
 ghost use Rattle.std.specs.Prelude.{refl};
-ghost use Rattle.schema.specs.Messages.{plain_profile};
+ghost use Rattle.schema.specs.Messages.{profile};
 ghost use Rattle.prof_rec.specs.Views.{profile_view};
 
-use crate::ValueType;
+use crate::{Sample, ValueType};
 use pb_wire::{
-    Blob, Field, NoMemory, ReadFault, RowType, Text, Wire, bytes_len, fixed_len, message_len,
-    number_len, put_bytes, put_fixed, put_message, put_number, put_text, refuse_many, take_bytes,
-    take_fixed, take_message, take_number, take_text, text_len,
+    Blob, Field, NoMemory, ReadFault, Repeated, Text, Wire, add_message, add_number, bytes_len,
+    fixed_len, message_len, messages_len, number_len, numbers_len, put_bytes, put_fixed,
+    put_message, put_messages, put_number, put_numbers, put_text, take_bytes, take_fixed,
+    take_message, take_number, take_text, text_len,
 };
 use std::alloc::Global;
 
-/// A profile. Its samples and its attributes are not read yet.
+/// A profile: samples of one type.
 #[derive(Debug, Drop)]
 pub struct Profile {
     /// What the values of the samples are.
     pub sample_type: ValueType,
-    /// When the profile began, in nanoseconds since 1970.
+    pub samples: Repeated<Sample>,
+    /// When the profile was collected, in nanoseconds since 1970.
     pub time_unix_nano: u64,
     /// How long it took, in nanoseconds.
     pub duration_nano: u64,
@@ -28,10 +30,12 @@ pub struct Profile {
     pub dropped_attributes_count: u32,
     pub original_payload_format: Text,
     pub original_payload: Blob,
+    /// Indexes into the attribute table.
+    pub attribute_indices: Repeated<i32>,
 }
 
 impl Wire for Profile {
-    ghost shape = { plain_profile };
+    ghost shape = { profile };
 
     ghost view = { profile_view };
 
@@ -42,6 +46,7 @@ impl Wire for Profile {
     fn none(alloc: Global) -> Profile {
         Profile {
             sample_type: ValueType::none(alloc),
+            samples: Repeated::begin(alloc),
             time_unix_nano: 0,
             duration_nano: 0,
             period_type: ValueType::none(alloc),
@@ -50,13 +55,14 @@ impl Wire for Profile {
             dropped_attributes_count: 0,
             original_payload_format: Text::begin(alloc),
             original_payload: Blob::begin(alloc),
+            attribute_indices: Repeated::begin(alloc),
         }
     }
 
     fn take(&mut self, alloc: Global, field: &Field<'_>) -> Result<(), ReadFault> {
         match field.number {
             1 => take_message(&mut self.sample_type, alloc, field),
-            2 => refuse_many(RowType::Bytes, field),
+            2 => add_message(&mut self.samples, alloc, field),
             3 => take_fixed(&mut self.time_unix_nano, field),
             4 => take_number(&mut self.duration_nano, field),
             5 => take_message(&mut self.period_type, alloc, field),
@@ -65,13 +71,14 @@ impl Wire for Profile {
             8 => take_number(&mut self.dropped_attributes_count, field),
             9 => take_text(&mut self.original_payload_format, alloc, field),
             10 => take_bytes(&mut self.original_payload, alloc, field),
-            11 => refuse_many(RowType::Varint, field),
+            11 => add_number(&mut self.attribute_indices, field),
             _ => Ok(()),
         }
     }
 
     fn rows_len(&self) -> u64 {
         message_len(1, &self.sample_type)
+            + messages_len(2, &self.samples)
             + fixed_len(3, self.time_unix_nano)
             + number_len(4, self.duration_nano)
             + message_len(5, &self.period_type)
@@ -80,11 +87,13 @@ impl Wire for Profile {
             + number_len(8, self.dropped_attributes_count)
             + text_len(9, &self.original_payload_format)
             + bytes_len(10, &self.original_payload)
+            + numbers_len(11, &self.attribute_indices)
     }
 
     #[tactic(auto, using(pb_wire::proofs::Begins::growing))]
     fn put_rows(&self, out: &mut Blob) -> Result<(), NoMemory> {
         put_message(out, 1, &self.sample_type)?;
+        put_messages(out, 2, &self.samples)?;
         put_fixed(out, 3, self.time_unix_nano)?;
         put_number(out, 4, self.duration_nano)?;
         put_message(out, 5, &self.period_type)?;
@@ -93,6 +102,7 @@ impl Wire for Profile {
         put_number(out, 8, self.dropped_attributes_count)?;
         put_text(out, 9, &self.original_payload_format)?;
         put_bytes(out, 10, &self.original_payload)?;
+        put_numbers(out, 11, &self.attribute_indices)?;
         Ok(())
     }
 }

@@ -3,17 +3,20 @@ ghost use Rattle.std.specs.Prelude.{refl};
 ghost use Rattle.schema.specs.Messages.{resource_profiles};
 ghost use Rattle.prof_rec.specs.Views.{resource_profiles_view};
 
-use crate::ScopeProfiles;
+use crate::{Resource, ScopeProfiles};
 use pb_wire::{
-    Blob, Field, NoMemory, ReadFault, Repeated, RowType, Wire, add_message, messages_len,
-    put_messages, refuse_one,
+    Blob, Field, NoMemory, ReadFault, Repeated, Text, Wire, add_message, message_len, messages_len,
+    put_message, put_messages, put_text, take_message, take_text, text_len,
 };
 use std::alloc::Global;
 
-/// The profiles of one resource. The resource itself and the schema URL are not read yet.
+/// The profiles of one resource.
 #[derive(Debug, Drop)]
 pub struct ResourceProfiles {
+    pub resource: Resource,
     pub scope_profiles: Repeated<ScopeProfiles>,
+    /// The URL of the schema that the resource follows.
+    pub schema_url: Text,
 }
 
 /// A list of resource records.
@@ -30,23 +33,32 @@ impl Wire for ResourceProfiles {
 
     fn none(alloc: Global) -> ResourceProfiles {
         ResourceProfiles {
+            resource: Resource::none(alloc),
             scope_profiles: Repeated::begin(alloc),
+            schema_url: Text::begin(alloc),
         }
     }
 
     fn take(&mut self, alloc: Global, field: &Field<'_>) -> Result<(), ReadFault> {
         match field.number {
-            1 | 3 => refuse_one(RowType::Bytes, field),
+            1 => take_message(&mut self.resource, alloc, field),
             2 => add_message(&mut self.scope_profiles, alloc, field),
+            3 => take_text(&mut self.schema_url, alloc, field),
             _ => Ok(()),
         }
     }
 
     fn rows_len(&self) -> u64 {
-        messages_len(2, &self.scope_profiles)
+        message_len(1, &self.resource)
+            + messages_len(2, &self.scope_profiles)
+            + text_len(3, &self.schema_url)
     }
 
+    #[tactic(auto, using(pb_wire::proofs::Begins::growing))]
     fn put_rows(&self, out: &mut Blob) -> Result<(), NoMemory> {
-        put_messages(out, 2, &self.scope_profiles)
+        put_message(out, 1, &self.resource)?;
+        put_messages(out, 2, &self.scope_profiles)?;
+        put_text(out, 3, &self.schema_url)?;
+        Ok(())
     }
 }

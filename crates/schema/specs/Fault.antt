@@ -16,8 +16,6 @@ pub data Reason : Type 0 where
   PackedLength : Reason
   -- an AnyValue is nested too deep
   TooDeep : Reason
-  -- the field fits a row that this program does not read yet
-  NotBuilt : Reason
 
 -- the place is that of the first byte of the field's tag
 pub record Fault : Type 0 where

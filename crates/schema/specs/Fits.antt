@@ -1,8 +1,8 @@
 -- Values that a program can write and read again, and shapes whose rows can be told apart.
-use Rattle.std.specs.Prelude.{◌≡◌, ℕ, ◌<◌, ◌^◌, List, [], length, nat_lt, ◌==◌, Bool, true, false, not, ◌&&◌, ◌||◌, ◌⊎◌}
+use Rattle.std.specs.Prelude.{◌≡◌, ℕ, ◌<◌, ◌^◌, List, length, nat_lt, ◌==◌, Bool, true, false, not, ◌&&◌, ◌||◌, ◌⊎◌}
 use Rattle.std.specs.Str.{is_utf8}
 use Rattle.schema.specs.Each.{Each}
-use Rattle.schema.specs.Shape.{Shape, Number, Fixed, Bytes, Text, Any, Index, Unbuilt, End, One, Many, I32, Value, IsMessage}
+use Rattle.schema.specs.Shape.{Shape, Number, Fixed, Bytes, Text, Any, Index, End, One, Many, I32, Value, IsMessage}
 use Rattle.schema.specs.Texts.{FitsNumber, numbers_text, fixed_text}
 use Rattle.schema.specs.Spell.{spell}
 use Rattle.schema.specs.AnyMerge.{any_levels}
@@ -53,7 +53,6 @@ FitsTogether (Number w) vs = length (numbers_text w vs) < 2 ^ 64
 FitsTogether (Index T entry) vs = length (numbers_text I32 vs) < 2 ^ 64
 FitsTogether Fixed vs = length (fixed_text vs) < 2 ^ 64
 FitsTogether (Any depth) vs = Each (FitsAny (any_levels depth)) vs
-FitsTogether (Unbuilt k) vs = vs ≡ []
 FitsTogether s vs = Unit {0}
 
 -- numbers are in their range, texts are UTF-8, AnyValues are not too deep, and each length can be written
@@ -64,7 +63,6 @@ Fits Fixed x = x < 2 ^ 64
 Fits Bytes x = length x < 2 ^ 64
 Fits Text x = (is_utf8 x ≡ true) × (length x < 2 ^ 64)
 Fits (Any depth) x = FitsIfWritten (any_levels depth) x
-Fits (Unbuilt k) x = Unit {0}
 Fits End x = Unit {0}
 Fits (One n k rest) x = Fits k x.0 × (length (spell k x.0) < 2 ^ 64) × Fits rest x.1
 Fits (Many n k rest) x = Each (λ y. Fits k y × (length (spell k y) < 2 ^ 64)) x.0 × FitsTogether k x.0 × Fits rest x.1

@@ -3,11 +3,11 @@
 use Rattle.std.specs.Prelude.{ℕ, zero, suc, ◌-◌, ◌/◌, ◌%◌, List, [], ◌∷◌, ◌++◌, length, take, drop, Result, Ok, Err, ◌==◌, if◌then◌else◌}
 use Rattle.std.specs.Int.{w64, from_le_bytes}
 use Rattle.schema.specs.Field.{Payload, Varint, Eight, Long, Field}
-use Rattle.schema.specs.Fault.{Reason, Truncated, PackedLength, NotBuilt, Fault, fault_at}
+use Rattle.schema.specs.Fault.{Reason, Truncated, PackedLength, Fault, fault_at}
 use Rattle.schema.specs.Steps.{◌>>=◌, varint_at, trace}
 use Rattle.schema.specs.Run.{run, text_of, one_text}
 use Rattle.schema.specs.Parts.{Part, run_all}
-use Rattle.schema.specs.Shape.{Shape, Number, Fixed, Bytes, Text, Any, Index, Unbuilt, End, One, Many, Format, I32, NumberValue, Value, number_from, empty, fits_one, fits_many}
+use Rattle.schema.specs.Shape.{Shape, Number, Fixed, Bytes, Text, Any, Index, End, One, Many, Format, I32, NumberValue, Value, number_from, empty}
 use Rattle.schema.specs.AnyMerge.{add_element, any_levels, go_on, item_at, merge_any}
 
 abbrev pub at_place : {A : Type 0} → ℕ → Result A Reason → Result A Fault
@@ -54,13 +54,6 @@ abbrev pub one_bytes : Payload → List ℕ → List ℕ
 one_bytes (Long b) v = b
 one_bytes payload v = v
 
--- a payload that fits a row that is not read yet is refused, and any other is skipped
-abbrev pub refuse_one : {A : Type 0} → Shape → ℕ → Payload → A → Result A Fault
-refuse_one k at payload v = if fits_one k payload then Err (fault_at at NotBuilt) else Ok v
-
-abbrev pub refuse_many : {A : Type 0} → Shape → ℕ → Payload → A → Result A Fault
-refuse_many k at payload v = if fits_many k payload then Err (fault_at at NotBuilt) else Ok v
-
 -- `inside` takes one field of the message; `at` and `end` are where the tag begins and the payload ends
 abbrev pub take_one : (s : Shape) → (ℕ → ℕ → Field → Value s → Result (Value s) Fault) → ℕ → ℕ → Payload → Value s → Result (Value s) Fault
 take_one (Number w) inside at end payload v = Ok (one_number w payload v)
@@ -69,7 +62,6 @@ take_one Fixed inside at end payload v = Ok (one_fixed payload v)
 take_one Bytes inside at end payload v = Ok (one_bytes payload v)
 take_one Text inside at end payload v = one_text at payload v
 take_one (Any depth) inside at end payload v = go_on (merge_any (any_levels depth)) at end payload v
-take_one (Unbuilt k) inside at end payload v = refuse_one k at payload v
 take_one End inside at end (Long b) v = run inside v (trace (end - length b) b)
 take_one (One n k rest) inside at end (Long b) v = run inside v (trace (end - length b) b)
 take_one (Many n k rest) inside at end (Long b) v = run inside v (trace (end - length b) b)
@@ -108,7 +100,6 @@ take_many Fixed inside at end payload vs = more_fixed at payload vs
 take_many Bytes inside at end payload vs = Ok (more_bytes payload vs)
 take_many Text inside at end payload vs = more_texts at payload vs
 take_many (Any depth) inside at end payload vs = add_element (item_at (merge_any (any_levels depth))) at end payload vs
-take_many (Unbuilt k) inside at end payload vs = refuse_many k at payload vs
 take_many End inside at end (Long b) vs = run inside (empty End) (trace (end - length b) b) >>= λ v. Ok (vs ++ v ∷ [])
 take_many (One n k rest) inside at end (Long b) vs = run inside (empty (One n k rest)) (trace (end - length b) b) >>= λ v. Ok (vs ++ v ∷ [])
 take_many (Many n k rest) inside at end (Long b) vs = run inside (empty (Many n k rest)) (trace (end - length b) b) >>= λ v. Ok (vs ++ v ∷ [])
@@ -124,7 +115,6 @@ take_field Bytes at end f v = Ok v
 take_field Text at end f v = Ok v
 take_field (Any depth) at end f v = Ok v
 take_field (Index T entry) at end f v = Ok v
-take_field (Unbuilt k) at end f v = Ok v
 take_field End at end f v = Ok v
 take_field (One n k rest) at end f v =
     if f.number == n then (take_one k (take_field k) at end f.payload v.0 >>= λ x. Ok (x, v.1))

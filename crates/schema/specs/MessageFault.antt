@@ -1,20 +1,19 @@
 -- The first fault of a byte list for a shape: which payloads of which rows have a fault.
-use Rattle.std.specs.Prelude.{◌≡◌, ℕ, ◌-◌, ◌%◌, List, length, ◌⊎◌, true, false}
+use Rattle.std.specs.Prelude.{◌≡◌, ℕ, ◌-◌, ◌%◌, List, length, ◌⊎◌, false}
 use Rattle.std.specs.Str.{is_utf8}
-use Rattle.schema.specs.Fault.{NotUtf8, PackedLength, NotBuilt, Fault, fault_at}
+use Rattle.schema.specs.Fault.{NotUtf8, PackedLength, Fault, fault_at}
 use Rattle.schema.specs.Field.{Payload, Long, Field}
 use Rattle.schema.specs.FirstFault.{BadPacked, FirstFault}
 use Rattle.schema.specs.Parts.{Part, FaultInParts}
-use Rattle.schema.specs.Shape.{Shape, Number, Fixed, Text, Any, Index, Unbuilt, End, One, Many, fits_one, fits_many}
+use Rattle.schema.specs.Shape.{Shape, Number, Fixed, Text, Any, Index, End, One, Many}
 use Rattle.schema.specs.AnyMerge.{any_levels}
 use Rattle.schema.specs.AnyFaults.{AnyFault, LongFault}
 
--- The fault of a payload of a singular row: a text that is not UTF-8, a row that is not read yet, or a fault inside a
--- message or an AnyValue, whose bytes end where the payload does.
+-- The fault of a payload of a singular row: a text that is not UTF-8, or a fault inside a message or an AnyValue, whose
+-- bytes end where the payload does.
 abbrev pub OneFault : (s : Shape) → (ℕ → ℕ → Field → Fault → Type 0) → ℕ → ℕ → Payload → Fault → Type 0
 OneFault Text Inside at end (Long b) g = (is_utf8 b ≡ false) × (g ≡ fault_at at NotUtf8)
 OneFault (Any depth) Inside at end payload g = LongFault (AnyFault (any_levels depth)) at end payload g
-OneFault (Unbuilt k) Inside at end payload g = (fits_one k payload ≡ true) × (g ≡ fault_at at NotBuilt)
 OneFault End Inside at end (Long b) g = FirstFault Inside (end - length b) b g
 OneFault (One n k rest) Inside at end (Long b) g = FirstFault Inside (end - length b) b g
 OneFault (Many n k rest) Inside at end (Long b) g = FirstFault Inside (end - length b) b g
@@ -25,7 +24,6 @@ abbrev pub ManyFault : (s : Shape) → (ℕ → ℕ → Field → Fault → Type
 ManyFault (Number w) Inside at end (Long b) g = BadPacked b g.reason × (g.place ≡ at)
 ManyFault (Index T entry) Inside at end (Long b) g = BadPacked b g.reason × (g.place ≡ at)
 ManyFault Fixed Inside at end (Long b) g = ((length b % 8 ≡ 0) → ⊥) × (g ≡ fault_at at PackedLength)
-ManyFault (Unbuilt k) Inside at end payload g = (fits_many k payload ≡ true) × (g ≡ fault_at at NotBuilt)
 ManyFault s Inside at end payload g = OneFault s Inside at end payload g
 
 -- the fault of the payload of a field, where its number is that of a row

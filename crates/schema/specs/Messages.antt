@@ -1,9 +1,8 @@
 -- The schema: the messages of the OpenTelemetry Profiles signal, a line a message. It is after
 -- opentelemetry-proto 1.9.0 (`common/v1`, `resource/v1`, `profiles/v1development` and its collector service), which is
--- under development; this table alone decides the fields and their numbers. A field's name stands in the comment, and a
--- field that is not read yet is marked `Unbuilt`; `without` marks those named.
-use Rattle.std.specs.Prelude.{ℕ, [], ◌∷◌}
-use Rattle.schema.specs.Shape.{Shape, Number, Fixed, Bytes, Text, Any, Index, Unbuilt, End, One, Many, U32, U64, I32, I64, Table, Mappings, Locations, Functions, Links, Strings, Attributes, Stacks, without}
+-- under development; this table alone decides the fields and their numbers. A field's name stands in the comment.
+use Rattle.std.specs.Prelude.{ℕ}
+use Rattle.schema.specs.Shape.{Shape, Number, Fixed, Bytes, Text, Any, Index, End, One, Many, U32, U64, I32, I64, Table, Mappings, Locations, Functions, Links, Strings, Attributes, Stacks}
 
 -- an index into the string table
 abbrev pub string : Shape
@@ -16,7 +15,7 @@ key_value depth = One 1 Text (One 2 (Any depth) End)
 
 -- Attr (KeyValueAndUnit): 1 key_strindex, 2 value, 3 unit_strindex
 abbrev pub attribute : Shape
-attribute = One 1 string (One 2 (Unbuilt (Any 1)) (One 3 string End))
+attribute = One 1 string (One 2 (Any 1) (One 3 string End))
 
 -- Function: 1 name_strindex, 2 system_name_strindex, 3 filename_strindex, 4 start_line
 abbrev pub function : Shape
@@ -55,17 +54,13 @@ sample = One 1 (Index Stacks stack) (Many 2 (Number I64) (Many 3 (Index Attribut
 abbrev pub profile : Shape
 profile = One 1 value_type (Many 2 sample (One 3 Fixed (One 4 (Number U64) (One 5 value_type (One 6 (Number I64) (One 7 Bytes (One 8 (Number U32) (One 9 Text (One 10 Bytes (Many 11 (Index Attributes attribute) End))))))))))
 
--- a profile as far as it is read: without its samples and its attributes
-abbrev pub plain_profile : Shape
-plain_profile = without (2 ∷ 11 ∷ []) profile
-
 -- Scope: 1 name, 2 version, 3 attributes, 4 dropped_attributes_count
 abbrev pub scope : Shape
 scope = One 1 Text (One 2 Text (Many 3 (key_value 1) (One 4 (Number U32) End)))
 
 -- ScopeProfiles: 1 scope, 2 profiles, 3 schema_url
 abbrev pub scope_profiles : Shape
-scope_profiles = One 1 (Unbuilt scope) (Many 2 plain_profile (One 3 (Unbuilt Text) End))
+scope_profiles = One 1 scope (Many 2 profile (One 3 Text End))
 
 -- Resource: 1 attributes, 2 dropped_attributes_count, 3 opaque, whose elements are carried unread
 abbrev pub resource : Shape
@@ -73,7 +68,7 @@ resource = Many 1 (key_value 1) (One 2 (Number U32) (Many 3 Bytes End))
 
 -- ResourceProfiles: 1 resource, 2 scope_profiles, 3 schema_url
 abbrev pub resource_profiles : Shape
-resource_profiles = One 1 (Unbuilt resource) (Many 2 scope_profiles (One 3 (Unbuilt Text) End))
+resource_profiles = One 1 resource (Many 2 scope_profiles (One 3 Text End))
 
 -- the entries of a table
 abbrev pub entry : Table → Shape

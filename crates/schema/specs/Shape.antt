@@ -1,8 +1,6 @@
 -- The shapes of messages as data, and the values of a shape.
-use Rattle.std.specs.Prelude.{ℕ, ℤ, pos, ◌%◌, ◌^◌, List, [], Bool, false, not, ◌==◌, ◌||◌, if◌then◌else◌}
+use Rattle.std.specs.Prelude.{ℕ, ℤ, pos, ◌%◌, ◌^◌, List, [], Bool, false, not, ◌==◌}
 use Rattle.std.specs.Int.{w32, w64, cast_signed}
-use Rattle.std.specs.List.{list_any}
-use Rattle.schema.specs.Field.{Payload, wire_type}
 use Rattle.schema.specs.AnyValue.{AnyValue}
 
 -- how a number is written as a varint
@@ -34,8 +32,6 @@ pub data Shape : Type 0 where
   -- an AnyValue of this depth
   Any : ℕ → Shape
   Index : Table → Shape → Shape
-  -- a row that is not read yet
-  Unbuilt : Shape → Shape
   End : Shape
   One : ℕ → Shape → Shape → Shape
   Many : ℕ → Shape → Shape → Shape
@@ -54,7 +50,7 @@ NumberValue I32 = ℤ
 NumberValue I64 = ℤ
 NumberValue Flag = Bool
 
--- The values of a shape, with their indexes. A row that is not read yet has no value.
+-- The values of a shape, with their indexes.
 abbrev pub Value : Shape → Type 0
 Value (Number w) = NumberValue w
 Value Fixed = ℕ
@@ -62,7 +58,6 @@ Value Bytes = List ℕ
 Value Text = List ℕ
 Value (Any depth) = AnyValue
 Value (Index T entry) = ℤ
-Value (Unbuilt k) = Unit {0}
 Value End = Unit {0}
 Value (One n k rest) = Value k × Value rest
 Value (Many n k rest) = List (Value k) × Value rest
@@ -91,29 +86,6 @@ empty Bytes = []
 empty Text = []
 empty (Any depth) = AnyValue.Empty
 empty (Index T entry) = pos 0
-empty (Unbuilt k) = tt
 empty End = tt
 empty (One n k rest) = (empty k, empty rest)
 empty (Many n k rest) = ([], empty rest)
-
--- the wire type of a singular field of a shape
-abbrev pub own_type : Shape → ℕ
-own_type (Number w) = 0
-own_type (Index T entry) = 0
-own_type Fixed = 1
-own_type (Unbuilt k) = own_type k
-own_type s = 2
-
--- A payload fits a row where its wire type is that of the row's shape, or 2 where the row is repeated, since a repeated
--- number may be packed.
-abbrev pub fits_one : Shape → Payload → Bool
-fits_one k payload = wire_type payload == own_type k
-
-abbrev pub fits_many : Shape → Payload → Bool
-fits_many k payload = (wire_type payload == own_type k) || (wire_type payload == 2)
-
--- the same message, of whose rows those with these numbers are not read
-abbrev pub without : List ℕ → Shape → Shape
-without ns (One n k rest) = One n (if list_any (λ m. m == n) ns then Unbuilt k else k) (without ns rest)
-without ns (Many n k rest) = Many n (if list_any (λ m. m == n) ns then Unbuilt k else k) (without ns rest)
-without ns s = s

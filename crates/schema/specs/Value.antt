@@ -1,13 +1,13 @@
 -- The message value: what a list of fields is for a shape, row by row, as a relation (Protocol Buffers, "Encoding": "Last
 -- One Wins", "Packed Repeated Fields"; proto3).
-use Rattle.std.specs.Prelude.{◌≡◌, ℕ, List, [], ◌++◌}
+use Rattle.std.specs.Prelude.{◌≡◌, ℕ, List, ◌++◌}
 use Rattle.schema.specs.Each.{Each}
 use Rattle.schema.specs.Field.{Payload, Field}
 use Rattle.schema.specs.FirstFault.{Sound}
 use Rattle.schema.specs.MessageFault.{FieldFault}
 use Rattle.schema.specs.Parts.{Part, ReadInParts}
 use Rattle.schema.specs.RowValue.{of_number, others, number_in, fixed_in, bytes_in, IsLast, JoinedOf, NumbersOf, FixedOf, BytesOf, MessagesOf, Concats}
-use Rattle.schema.specs.Shape.{Shape, Number, Fixed, Bytes, Text, Any, Index, Unbuilt, One, Many, I32, Value, empty}
+use Rattle.schema.specs.Shape.{Shape, Number, Fixed, Bytes, Text, Any, Index, One, Many, I32, Value, empty}
 use Rattle.schema.specs.Spelling.{Spells}
 use Rattle.schema.specs.AnyMerge.{any_levels}
 use Rattle.schema.specs.AnyRead.{HasAny}
@@ -22,7 +22,6 @@ OneValue Fixed Inner payloads u v = IsLast fixed_in payloads u v
 OneValue Bytes Inner payloads u v = IsLast bytes_in payloads u v
 OneValue Text Inner payloads u v = IsLast bytes_in payloads u v
 OneValue (Any depth) Inner payloads u v = JoinedOf (HasAny (any_levels depth)) payloads u v
-OneValue (Unbuilt k) Inner payloads u v = v ≡ u
 OneValue s Inner payloads u v = JoinedOf Inner payloads u v
 
 -- the elements that a repeated row gains
@@ -33,7 +32,6 @@ ManyValue Fixed Inner payloads vs = Concats FixedOf payloads vs
 ManyValue Bytes Inner payloads vs = Concats BytesOf payloads vs
 ManyValue Text Inner payloads vs = Concats BytesOf payloads vs
 ManyValue (Any depth) Inner payloads vs = Concats (MessagesOf (HasAny (any_levels depth) AnyValue.Empty)) payloads vs
-ManyValue (Unbuilt k) Inner payloads vs = vs ≡ []
 ManyValue s Inner payloads vs = Concats (MessagesOf (Inner (empty s))) payloads vs
 
 -- ---- a message

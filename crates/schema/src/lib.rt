@@ -4,10 +4,10 @@
 
 ghost use Rattle.std.specs.Prelude.{◌≡◌, true};
 ghost use Rattle.schema.specs.Fits.{ascends, is_lawful};
-ghost use Rattle.schema.specs.Messages.{envelope, dictionary, resource_profiles, resource, scope_profiles, scope, profile, plain_profile, sample, value_type, link, stack, mapping, location, line, function, attribute, key_value, export_response, rpc_status};
+ghost use Rattle.schema.specs.Messages.{envelope, dictionary, resource_profiles, resource, scope_profiles, scope, profile, sample, value_type, link, stack, mapping, location, line, function, attribute, key_value, partial_success, export_response, rpc_status};
 
-/// In each message of the schema no two fields have one number, and each number is one that a tag can hold. A field that is
-/// not read yet, an index and an AnyValue are not looked into, so each message is named.
+/// In each message of the schema no two fields have one number, and each number is one that a tag can hold. An index and an
+/// AnyValue are not looked into, so each message is named.
 pub fn table_is_lawful()
     ensures envelope { is_lawful envelope ≡ true }
     ensures dictionary { is_lawful dictionary ≡ true }
@@ -26,6 +26,7 @@ pub fn table_is_lawful()
     ensures function { is_lawful function ≡ true }
     ensures attribute { is_lawful attribute ≡ true }
     ensures key_value { is_lawful (key_value 1) ≡ true }
+    ensures partial_success { is_lawful partial_success ≡ true }
     ensures export_response { is_lawful export_response ≡ true }
     ensures rpc_status { is_lawful rpc_status ≡ true }
 {}
@@ -39,7 +40,6 @@ pub fn rows_ascend()
     ensures scope_profiles { ascends 0 scope_profiles ≡ true }
     ensures scope { ascends 0 scope ≡ true }
     ensures profile { ascends 0 profile ≡ true }
-    ensures plain_profile { ascends 0 plain_profile ≡ true }
     ensures sample { ascends 0 sample ≡ true }
     ensures value_type { ascends 0 value_type ≡ true }
     ensures link { ascends 0 link ≡ true }
@@ -50,6 +50,7 @@ pub fn rows_ascend()
     ensures function { ascends 0 function ≡ true }
     ensures attribute { ascends 0 attribute ≡ true }
     ensures key_value { ascends 0 (key_value 1) ≡ true }
+    ensures partial_success { ascends 0 partial_success ≡ true }
     ensures export_response { ascends 0 export_response ≡ true }
     ensures rpc_status { ascends 0 rpc_status ≡ true }
 {}

@@ -4,14 +4,14 @@ use Rattle.std.specs.Prelude.{◌==◌}
 use Rattle.std.specs.Str.{is_utf8}
 use Rattle.std.proofs.lemmas.Bool.{eqb-true, eqb-false, ne_eqb}
 use Rattle.schema.specs.Field.{Long, Payload}
-use Rattle.schema.specs.Fault.{Fault, NotBuilt, NotUtf8, PackedLength, Reason, fault_at}
+use Rattle.schema.specs.Fault.{Fault, NotUtf8, PackedLength, Reason, fault_at}
 use Rattle.schema.specs.Steps.{◌>>=◌}
-use Rattle.schema.specs.Shape.{Any, Bytes, Fixed, Format, I32, Index, Many, Number, NumberValue, One, Shape, Text, Unbuilt, Value, empty, fits_many, fits_one}
+use Rattle.schema.specs.Shape.{Any, Bytes, Fixed, Format, I32, Index, Many, Number, NumberValue, One, Shape, Text, Value, empty}
 use Rattle.schema.specs.Merge.{at_place, merge, packed, packed_fixed, take_many, more_numbers, take_one, more_packed, take_field}
 use Rattle.schema.specs.Run.{text_of}
 use Rattle.schema.specs.FirstFault.{BadPacked, FirstFault}
 use Rattle.schema.specs.MessageFault.{FieldFault, HasFault, ManyFault, OneFault}
-use Rattle.schema_laws.proofs.Results.{err_is, map_err, map_at, map_both, checked, checked_err, checked_fails, checked_steady, refused_err, refused_fails, refused_steady}
+use Rattle.schema_laws.proofs.Results.{err_is, map_err, map_at, map_both, checked, checked_err, checked_fails, checked_steady}
 use Rattle.schema_laws.proofs.StepFaults.{fault_found, fault_read, moved}
 use Rattle.schema_laws.proofs.Packed.{packed_found, packed_bad}
 use Rattle.schema_laws.proofs.StepAgrees.{ok_from, row_hits, row_misses, row_steady, StepAgrees}
@@ -110,7 +110,6 @@ one_hits Fixed a at end p v g e = absurd cc
 one_hits Bytes a at end p v g e = absurd cc
 one_hits Text a at end (Long b) v g e = checked_err (is_utf8 b) b (fault_at at NotUtf8) g e
 one_hits (Any depth) a at end p v g e = value_hits (merge_any (any_levels depth)) (AnyFault (any_levels depth)) (any_agrees (any_levels depth)) at end p v g e
-one_hits (Unbuilt k) a at end p v g e = refused_err (fits_one k p) v (fault_at at NotBuilt) g e
 one_hits k a at end (Long b) v g e = message_hits k a (end - length b) b v g e
 one_hits k a at end p v g e = absurd cc
 
@@ -122,7 +121,6 @@ one_misses Fixed a at end p v g e = absurd e
 one_misses Bytes a at end p v g e = absurd e
 one_misses Text a at end (Long b) v g e = checked_fails (is_utf8 b) b (fault_at at NotUtf8) g e
 one_misses (Any depth) a at end p v g e = value_misses (merge_any (any_levels depth)) (AnyFault (any_levels depth)) (any_agrees (any_levels depth)) at end p v g e
-one_misses (Unbuilt k) a at end p v g e = refused_fails (fits_one k p) v (fault_at at NotBuilt) g e
 one_misses k a at end (Long b) v g e = message_misses k a (end - length b) b v g e
 one_misses k a at end p v g e = absurd e
 
@@ -134,7 +132,6 @@ one_steady Fixed a at end p v w e c d = e
 one_steady Bytes a at end p v w e c d = e
 one_steady Text a at end (Long b) v w e c d = checked_steady (is_utf8 b) b (fault_at at NotUtf8) (fault_at c NotUtf8) w e
 one_steady (Any depth) a at end p v w e c d = value_steady (merge_any (any_levels depth)) (AnyFault (any_levels depth)) (any_agrees (any_levels depth)) at end p v w e c d
-one_steady (Unbuilt k) a at end p v w e c d = refused_steady (fits_one k p) v (fault_at at NotBuilt) (fault_at c NotBuilt) w e
 one_steady k a at end (Long b) v w e c d = message_steady k a (end - length b) (d - length b) b v w e
 one_steady k a at end p v w e c d = e
 
@@ -148,7 +145,6 @@ many_hits Fixed a at end (Long b) v g e = eights_hits at b v g e
 many_hits Bytes a at end p v g e = absurd cc
 many_hits Text a at end (Long b) v g e = checked_err (is_utf8 b) b (fault_at at NotUtf8) g (map_err (text_of at b) (λ (t : List ℕ). v ++ t ∷ []) g e)
 many_hits (Any depth) a at end p v g e = add_hits (item_at (merge_any (any_levels depth))) (AnyFault (any_levels depth)) (any_agrees (any_levels depth) AnyValue.Empty) at end p v g e
-many_hits (Unbuilt k) a at end p v g e = refused_err (fits_many k p) v (fault_at at NotBuilt) g e
 many_hits k a at end (Long b) v g e = element_hits k a (end - length b) b v g e
 many_hits k a at end p v g e = absurd cc
 
@@ -160,7 +156,6 @@ many_misses Fixed a at end (Long b) v g e = eights_misses at b v g e
 many_misses Bytes a at end p v g e = absurd e
 many_misses Text a at end (Long b) v g e = map_at (text_of at b) (λ (t : List ℕ). v ++ t ∷ []) g (checked_fails (is_utf8 b) b (fault_at at NotUtf8) g e)
 many_misses (Any depth) a at end p v g e = add_misses (item_at (merge_any (any_levels depth))) (AnyFault (any_levels depth)) (any_agrees (any_levels depth) AnyValue.Empty) at end p v g e
-many_misses (Unbuilt k) a at end p v g e = refused_fails (fits_many k p) v (fault_at at NotBuilt) g e
 many_misses k a at end (Long b) v g e = element_misses k a (end - length b) b v g e
 many_misses k a at end p v g e = absurd e
 
@@ -172,7 +167,6 @@ many_steady Fixed a at end (Long b) v w e c d = checked_steady (length b % 8 == 
 many_steady Bytes a at end p v w e c d = e
 many_steady Text a at end (Long b) v w e c d = map_both (text_of at b) (text_of c b) (λ (t : List ℕ). v ++ t ∷ []) w (λ x q. checked_steady (is_utf8 b) b (fault_at at NotUtf8) (fault_at c NotUtf8) x q) e
 many_steady (Any depth) a at end p v w e c d = add_steady (item_at (merge_any (any_levels depth))) (AnyFault (any_levels depth)) (any_agrees (any_levels depth) AnyValue.Empty) at end p v w e c d
-many_steady (Unbuilt k) a at end p v w e c d = refused_steady (fits_many k p) v (fault_at at NotBuilt) (fault_at c NotBuilt) w e
 many_steady k a at end (Long b) v w e c d = element_steady k a (end - length b) (d - length b) b v w e
 many_steady k a at end p v w e c d = e
 

@@ -10,7 +10,7 @@ use Rattle.std.proofs.lemmas.Nat.{from_le_bytes-to_le_bytes_8}
 use Rattle.schema.specs.Field.{Payload, Varint, Eight, Long, Field}
 use Rattle.schema.specs.Fault.{Reason, PackedLength, Fault, fault_at}
 use Rattle.schema.specs.Steps.{◌>>=◌, field_at, trace}
-use Rattle.schema.specs.Shape.{Shape, Number, Fixed, Bytes, Text, Any, Index, Unbuilt, End, One, Many, Format, U32, U64, I32, I64, Flag, NumberValue, Value, IsMessage, empty, number_from, number_zero}
+use Rattle.schema.specs.Shape.{Shape, Number, Fixed, Bytes, Text, Any, Index, End, One, Many, Format, U32, U64, I32, I64, Flag, NumberValue, Value, IsMessage, empty, number_from, number_zero}
 use Rattle.schema.specs.Run.{run}
 use Rattle.schema.specs.Merge.{merge, take_one, take_many, more_packed, more_fixed, packed, packed_fixed, at_place, take_field}
 use Rattle.schema.specs.Texts.{varint, number_to, number_field, fixed_field, long_field, bytes_field, items_text, numbers_text, fixed_text, FitsNumber}
@@ -119,7 +119,6 @@ row_one Text step inject base n x text some few fits small again takes =
     (λ end. takes end (Long x) ∙ ap (λ (r : Result (List ℕ) Fault). r >>= λ y. Ok (inject y)) (text_again base x fits.0))
 row_one (Any depth) step inject base n x text some few fits small again takes =
     any_row (merge_any (any_levels depth)) (AnyInRange (any_levels depth)) (again_in (any_levels depth)) step inject base n x text some few fits.0 fits.1 (λ end. takes end (Long (any_text x)))
-row_one (Unbuilt k) step inject base n x text some few fits small again takes = no_field step (inject tt) (inject x) base [] text refl refl
 row_one k step inject base n x text some few fits small again takes = message_row k tt step inject base n x text some few fits small (again tt) takes
 
 -- ---- repeated rows
@@ -208,7 +207,6 @@ row_many Text step inject base n xs text some few fits small again takes =
     items_row step inject (λ b. b) n (FitsItem Text) some few (λ x p. p.0.1)
     (λ x p at end vs. takes at end (Long x) vs ∙ ap (λ (r : Result (List ℕ) Fault). (r >>= λ t. Ok (vs ++ t ∷ [])) >>= λ y. Ok (inject y)) (text_again at x p.0.0)) [] xs fits base text
 row_many (Any depth) step inject base n xs text some few fits small again takes = values_row depth step inject base n xs text some few small takes
-row_many (Unbuilt k) step inject base n xs text some few fits small again takes = no_field step (inject []) (inject xs) base [] text refl (ap inject (sym small))
 row_many k step inject base n xs text some few fits small again takes = messages_row k tt step inject base n xs text some few fits (again tt) takes
 
 -- ---- messages

@@ -1,9 +1,9 @@
 -- A value that is read is in its range, and each field makes its spelling longer by sixteen times its own bytes at most.
-use Rattle.std.proofs.Common.{◌≡◌, ℕ, ◌+◌, ◌*◌, ◌-◌, ◌^◌, ◌<◌, ◌≤◌, true, List, [], length, Ok, sym, ◌∙◌, arith}
+use Rattle.std.proofs.Common.{◌≡◌, ℕ, ◌+◌, ◌*◌, ◌-◌, ◌^◌, ◌<◌, ◌≤◌, true, List, length, Ok, sym, ◌∙◌, arith}
 use Rattle.std.specs.Int.{w64, from_le_bytes}
 use Rattle.std.specs.Str.{is_utf8}
 use Rattle.schema.specs.Field.{Eight, Long, Payload, Varint, greatest_number}
-use Rattle.schema.specs.Shape.{Any, Bytes, Fixed, Format, I32, Index, IsMessage, Many, Number, NumberValue, One, Shape, Text, Unbuilt, Value, number_from}
+use Rattle.schema.specs.Shape.{Any, Bytes, Fixed, Format, I32, Index, IsMessage, Many, Number, NumberValue, One, Shape, Text, Value, number_from}
 use Rattle.schema.specs.Merge.{merge, one_bytes, one_fixed, one_number, take_one, take_field}
 use Rattle.schema.specs.Texts.{bytes_field, fixed_field, number_field, number_to, FitsNumber}
 use Rattle.schema.specs.Spell.{spell, spell_one}
@@ -22,10 +22,9 @@ use Rattle.schema_laws.proofs.AnyGrowth.{any_keeps, go_on_keeps}
 
 -- ---- values in their range
 
--- what more is asked of the elements of a repeated row: one that is not read has none, and an AnyValue is one that is written
+-- what more is asked of the elements of a repeated row: an AnyValue is one that is written
 abbrev pub AlsoIn : (k : Shape) → List (Value k) → Type 0
 AlsoIn (Any depth) vs = Each (AnyInRange (any_levels depth)) vs
-AlsoIn (Unbuilt k) vs = vs ≡ []
 AlsoIn k vs = Unit {0}
 
 -- what `Fits` asks, but for lengths
@@ -96,5 +95,4 @@ one_keeps Bytes keep n le at end p u v r i room e = bytes_keep (λ x. Unit {0}) 
 one_keeps Text keep n le at end p u v r i room e = text_keeps n le at p u v i room e
 one_keeps (Any depth) keep n le at end p u v r i room e =
     go_on_keeps (merge_any (any_levels depth)) (AnyInRange (any_levels depth)) (any_keeps (any_levels depth)) n le at end p u v r i room e
-one_keeps (Unbuilt k) keep n le at end p u v r i room e = (tt, omega arith)
 one_keeps k keep n le at end p u v r i room e = one_message k tt keep n le at end p u v r i room e

@@ -8,15 +8,15 @@ use Rattle.std.proofs.lemmas.Str.{IsUtf8-nil, is_utf8-from_IsUtf8}
 use Rattle.std.proofs.lemmas.Grind.{flat_map-append}
 use Rattle.std.proofs.lemmas.List.{map-append}
 use Rattle.schema.specs.Field.{Eight, Long, Payload, Varint, greatest_number}
-use Rattle.schema.specs.Fault.{NotBuilt, NotUtf8, PackedLength, Reason, fault_at}
+use Rattle.schema.specs.Fault.{NotUtf8, PackedLength, Reason, fault_at}
 use Rattle.schema.specs.Steps.{◌>>=◌}
-use Rattle.schema.specs.Shape.{Any, Bytes, Fixed, Flag, Format, I32, I64, Index, IsMessage, Many, Number, NumberValue, One, Shape, Text, U32, U64, Unbuilt, Value, empty, fits_many, number_from, number_zero}
+use Rattle.schema.specs.Shape.{Any, Bytes, Fixed, Flag, Format, I32, I64, Index, IsMessage, Many, Number, NumberValue, One, Shape, Text, U32, U64, Value, empty, number_from, number_zero}
 use Rattle.schema.specs.Merge.{at_place, merge, packed, packed_fixed, more_bytes, more_fixed, take_many, more_numbers, take_one, more_texts, take_field}
 use Rattle.schema.specs.Run.{text_of}
 use Rattle.schema.specs.Texts.{bytes_field, fixed_field, fixed_text, items_text, long_field, number_field, number_to, numbers_text, varint, FitsNumber}
 use Rattle.schema.specs.Spell.{spell, spell_many, spell_one}
 use Rattle.schema.specs.Each.{Each}
-use Rattle.schema_laws.proofs.Results.{ok_is, bind_ok, checked_ok, refused_ok}
+use Rattle.schema_laws.proofs.Results.{ok_is, bind_ok, checked_ok}
 use Rattle.schema_laws.proofs.Onto.{varint_at_most}
 use Rattle.schema_laws.proofs.Rows.{take_many_message, take_many_short}
 use Rattle.schema_laws.proofs.Fixed.{fixed_len}
@@ -182,8 +182,6 @@ many_keeps Fixed keep start nothing n le at end p us vs r i room e = also Fixeds
 many_keeps Bytes keep start nothing n le at end p us vs r i room e = also (Each (InRange Bytes)) (λ xs. length (items_text n xs)) us (field_cost p) vs (bytes_keep n le p us vs i.0 room (ok_is (more_bytes p us) vs e))
 many_keeps Text keep start nothing n le at end p us vs r i room e = also (Each (InRange Text)) (λ xs. length (items_text n xs)) us (field_cost p) vs (texts_keep n le at p us vs i.0 room e)
 many_keeps (Any depth) keep start nothing n le at end p us vs r i room e = values_keep depth n le at end p us vs r i.1 room e
-many_keeps (Unbuilt k) keep start nothing n le at end p us vs r i room e =
-    stays (ManyIn (Unbuilt k)) (λ xs. 0) us vs (field_cost p) (refused_ok (fits_many k p) us vs (fault_at at NotBuilt) e) i
 many_keeps k keep start nothing n le at end p us vs r i room e =
     also (Each (InRange k)) (λ xs. length (items_text n (map (spell k) xs))) us (field_cost p) vs (many_message k tt keep start nothing n le at end p us vs r i.0 room e)
 
@@ -216,7 +214,6 @@ one_nothing Fixed n e = fixed_nothing n
 one_nothing Bytes n e = bytes_nothing n [] refl
 one_nothing Text n e = bytes_nothing n [] refl
 one_nothing (Any depth) n e = bytes_nothing n [] refl
-one_nothing (Unbuilt k) n e = refl
 one_nothing k n e = bytes_nothing n (spell k (empty k)) e
 
 -- and a repeated row with no elements
@@ -243,7 +240,6 @@ zero_fits Flag = (omega arith, refl)
 -- no elements are in their range
 none_in : (k : Shape) → AlsoIn k []
 none_in (Any depth) = tt
-none_in (Unbuilt k) = refl
 none_in k = tt
 
 -- and it is in its range

@@ -1,7 +1,7 @@
 -- A value that is read can be written and read again, where the bytes are not too many.
 use Rattle.std.proofs.Common.{◌≡◌, ℕ, ◌+◌, ◌*◌, ◌^◌, ◌<◌, ◌≤◌, List, length, Ok, refl, sym, ap, subst, ◌∙◌, arith, length-append, inr}
 use Rattle.std.proofs.lemmas.List.Folds.{flat_map-map}
-use Rattle.schema.specs.Shape.{Any, Bytes, End, Fixed, I32, Index, IsMessage, Many, Number, One, Shape, Text, Unbuilt, Value, empty}
+use Rattle.schema.specs.Shape.{Any, Bytes, End, Fixed, I32, Index, IsMessage, Many, Number, One, Shape, Text, Value, empty}
 use Rattle.schema.specs.Parts.{Part, joined}
 use Rattle.schema.specs.Merge.{merge, merge_all, take_field}
 use Rattle.schema.specs.Texts.{bytes_field, fixed_text, long_field, numbers_text}
@@ -35,7 +35,6 @@ one_fits Fixed n x i short h = (i, omega arith)
 one_fits Bytes n x i short h = let l = bytes_field_le n x in (omega arith, omega arith)
 one_fits Text n x i short h = let l = bytes_field_le n x in ((i, omega arith), omega arith)
 one_fits (Any depth) n x i short h = let l = bytes_field_le n (any_text x) in ((i, omega arith), omega arith)
-one_fits (Unbuilt k) n x i short h = (tt, omega arith)
 one_fits k n x i short h = let l = bytes_field_le n (spell k x) in let s : size k x < 2 ^ 64 = omega arith in (h tt x i s, s)
 
 -- what `Fits` asks of a repeated row
@@ -61,7 +60,6 @@ many_fits (Any depth) n xs i short h =
     let fits = each_short any_text n (AnyInRange left) (FitsAny left) (λ x r s. (r, s)) xs i.1
     (subst (λ (t : List ℕ). length t < 2 ^ 64) (flat_map-map (long_field n) any_text xs) short) in
     (each_as (FitsAny left) (FitsItem (Any depth)) (λ x f. ((inr f.0, f.1), omega arith)) xs fits, fits)
-many_fits (Unbuilt k) n xs i short h = (leaves (Unbuilt k) xs i.0 (λ x. refl), i.1)
 many_fits k n xs i short h = (
   each_short (spell k) n (InRange k) (FitsItem k) (λ x r s. (h tt x r s, s)) xs i.0
       (subst (λ (t : List ℕ). length t < 2 ^ 64) (flat_map-map (long_field n) (spell k) xs) short),

@@ -67,23 +67,3 @@ checked_fails {A} {E} false x f g w = ap (λ (h : E). let r : Result A E = Err h
 pub checked_steady : {A E : Type 0} (t : Bool) (x : A) (f h : E) (w : A) → checked t x f ≡ Ok w → checked t x h ≡ Ok w
 checked_steady true x f h w e = e
 checked_steady false x f h w e = absurd cc
-
--- what fails by a test, and else is right
-abbrev pub refused : {A E : Type 0} → Bool → A → E → Result A E
-refused t x f = cond t (Err f) (Ok x)
-
-pub refused_ok : {A E : Type 0} (t : Bool) (x y : A) (f : E) → refused t x f ≡ Ok y → x ≡ y
-refused_ok true x y f e = absurd cc
-refused_ok {A} {E} false x y f e = ok_is {A = A} {E = E} x y e
-
-pub refused_err : {A E : Type 0} (t : Bool) (x : A) (f g : E) → refused t x f ≡ Err g → (t ≡ true) × (g ≡ f)
-refused_err {A} {E} true x f g e = (refl, sym (err_is {A = A} {E = E} f g e))
-refused_err false x f g e = absurd cc
-
-pub refused_fails : {A E : Type 0} (t : Bool) (x : A) (f g : E) → (t ≡ true) × (g ≡ f) → refused t x f ≡ Err g
-refused_fails {A} {E} true x f g w = ap (λ (h : E). let r : Result A E = Err h in r) (sym w.1)
-refused_fails false x f g w = absurd (let z = w.0 in cc)
-
-pub refused_steady : {A E : Type 0} (t : Bool) (x : A) (f h : E) (w : A) → refused t x f ≡ Ok w → refused t x h ≡ Ok w
-refused_steady true x f h w e = absurd cc
-refused_steady false x f h w e = e

@@ -6,13 +6,13 @@ use Rattle.std.specs.List.{flat_map}
 use Rattle.std.specs.Str.{is_utf8}
 use Rattle.std.proofs.lemmas.List.{append-nil}
 use Rattle.schema.specs.Field.{Eight, Field, Long, Payload, Varint}
-use Rattle.schema.specs.Fault.{Fault, NotBuilt, NotUtf8, PackedLength, Reason, fault_at}
+use Rattle.schema.specs.Fault.{Fault, NotUtf8, PackedLength, Reason, fault_at}
 use Rattle.schema.specs.Steps.{Trace, trace, ◌>>=◌}
-use Rattle.schema.specs.Shape.{Any, Bytes, Fixed, Format, I32, Index, IsMessage, Many, Number, NumberValue, One, Shape, Text, Unbuilt, Value, empty, fits_many, number_from}
+use Rattle.schema.specs.Shape.{Any, Bytes, Fixed, Format, I32, Index, IsMessage, Many, Number, NumberValue, One, Shape, Text, Value, empty, number_from}
 use Rattle.schema.specs.Merge.{at_place, merge, one_bytes, one_fixed, one_number, packed, packed_fixed, more_bytes, more_fixed, take_many, more_numbers, take_one, more_texts, take_field}
 use Rattle.schema.specs.Run.{run, text_of}
 use Rattle.schema.specs.RowValue.{bytes_in, fixed_in, number_in, of_number, others}
-use Rattle.schema_laws.proofs.Results.{ok_is, bind_ok, checked_ok, refused_ok}
+use Rattle.schema_laws.proofs.Results.{ok_is, bind_ok, checked_ok}
 use Rattle.schema_laws.proofs.Traces.{fields}
 use Rattle.schema_laws.proofs.Rows.{take_one_message, take_many_message, take_one_short, take_many_short}
 use Rattle.schema_laws.proofs.Folds.{or_else, last_said, inside, messages_of, fields_place, law_over, text_said, fold_many}
@@ -52,7 +52,6 @@ one_value Fixed value ps u = last_said fixed_in ps u
 one_value Bytes value ps u = last_said bytes_in ps u
 one_value Text value ps u = last_said bytes_in ps u
 one_value (Any depth) value ps u = any_value (any_levels depth) u (flat_map inside ps)
-one_value (Unbuilt k) value ps u = u
 one_value s value ps u = value u (flat_map inside ps)
 
 -- the elements that a repeated row gains
@@ -63,7 +62,6 @@ many_value Fixed value ps = flat_map fixed_of ps
 many_value Bytes value ps = flat_map texts_of ps
 many_value Text value ps = flat_map texts_of ps
 many_value (Any depth) value ps = flat_map (messages_of (any_value (any_levels depth) AnyValue.Empty)) ps
-many_value (Unbuilt k) value ps = []
 many_value s value ps = flat_map (messages_of (value (empty s))) ps
 
 -- u with the fields
@@ -140,7 +138,6 @@ one_step Bytes law at end p ps u x e = ap (last_said bytes_in ps) (bytes_said p 
 one_step Text law at end p ps u x e = ap (last_said bytes_in ps) (text_said at p u x e)
 one_step (Any depth) law at end p ps u x e =
     go_on_gives (merge_any (any_levels depth)) (any_value (any_levels depth)) (any_nil (any_levels depth)) (any_gives (any_levels depth)) at end p ps u x e
-one_step (Unbuilt k) law at end p ps u x e = refl
 one_step k law at end p ps u x e = one_message k tt law at end p ps u x e
 
 -- ---- repeated rows
@@ -195,7 +192,6 @@ many_step (Any depth) law at end p ps u x e =
     fold_many (messages_of (any_value (any_levels depth) AnyValue.Empty)) p ps u x
     (add_gives (item_at (merge_any (any_levels depth))) (any_value (any_levels depth) AnyValue.Empty)
     (item_gives (merge_any (any_levels depth)) (any_value (any_levels depth)) (any_nil (any_levels depth)) (any_gives (any_levels depth))) at end p u x e)
-many_step (Unbuilt k) law at end p ps u x e = ap (λ (y : List (Value (Unbuilt k))). y ++ []) (refused_ok (fits_many k p) u x (fault_at at NotBuilt) e)
 many_step k law at end p ps u x e = fold_many (messages_of (value k (empty k))) p ps u x (many_message k tt law at end p u x e)
 
 -- ---- messages

@@ -6,7 +6,7 @@ use Rattle.std.proofs.lemmas.Bool.{eqb-false, cases_eq}
 use Rattle.schema.specs.Field.{Field, Long, Payload, bytes_of}
 use Rattle.schema.specs.Fault.{Fault, PackedLength, Reason, fault_at}
 use Rattle.schema.specs.Steps.{trace}
-use Rattle.schema.specs.Shape.{Any, Bytes, End, Fixed, Format, I32, Index, IsMessage, Many, Number, NumberValue, One, Shape, Table, Text, Unbuilt, Value, empty, number_from}
+use Rattle.schema.specs.Shape.{Any, Bytes, End, Fixed, Format, I32, Index, IsMessage, Many, Number, NumberValue, One, Shape, Table, Text, Value, empty, number_from}
 use Rattle.schema.specs.Merge.{merge, packed, take_field, merge_all}
 use Rattle.schema.specs.Each.{Each}
 use Rattle.schema.specs.Spelling.{Spells}
@@ -137,7 +137,6 @@ one_to Fixed same ps s u v e = is_last fixed_in ps u v e
 one_to Bytes same ps s u v e = is_last bytes_in ps u v e
 one_to Text same ps s u v e = is_last bytes_in ps u v e
 one_to (Any depth) same ps s u v e = any_joined_to (any_levels depth) ps s u v e
-one_to (Unbuilt k) same ps s u v e = e
 one_to k same ps s u v e = joined_to k same ps (as_one k tt ps s) u v e
 
 -- and the other way
@@ -148,7 +147,6 @@ one_back Fixed same ps s u v e = last_is fixed_in ps u v e
 one_back Bytes same ps s u v e = last_is bytes_in ps u v e
 one_back Text same ps s u v e = last_is bytes_in ps u v e
 one_back (Any depth) same ps s u v e = any_joined_back (any_levels depth) ps s u v e
-one_back (Unbuilt k) same ps s u v e = e
 one_back k same ps s u v e = joined_back k same ps (as_one k tt ps s) u v e
 
 -- ---- repeated rows
@@ -252,7 +250,6 @@ many_to Fixed same ps s vs e = concats_to FixedFault FixedOf fixed_of fixed ps s
 many_to Bytes same ps s vs e = concats_to (ManyFault Bytes (FieldFault Bytes)) BytesOf texts_of (texts (ManyFault Bytes (FieldFault Bytes))) ps s vs e
 many_to Text same ps s vs e = concats_to (ManyFault Text (FieldFault Text)) BytesOf texts_of (texts (ManyFault Text (FieldFault Text))) ps s vs e
 many_to (Any depth) same ps s vs e = concats_to (LongFault (AnyFault (any_levels depth))) (MessagesOf (HasAny (any_levels depth) AnyValue.Empty)) (messages_of (any_value (any_levels depth) AnyValue.Empty)) (any_elements (any_levels depth)) ps s vs e
-many_to (Unbuilt k) same ps s vs e = e
 many_to k same ps s vs e = concats_to (MessageFault k) (MessagesOf (HasValue k (empty k))) (messages_of (value k (empty k))) (messages k same) ps (as_many k tt ps s) vs e
 
 -- and the other way
@@ -263,7 +260,6 @@ many_back Fixed same ps s vs e = concats_back FixedFault FixedOf fixed_of fixed 
 many_back Bytes same ps s vs e = concats_back (ManyFault Bytes (FieldFault Bytes)) BytesOf texts_of (texts (ManyFault Bytes (FieldFault Bytes))) ps s vs e
 many_back Text same ps s vs e = concats_back (ManyFault Text (FieldFault Text)) BytesOf texts_of (texts (ManyFault Text (FieldFault Text))) ps s vs e
 many_back (Any depth) same ps s vs e = concats_back (LongFault (AnyFault (any_levels depth))) (MessagesOf (HasAny (any_levels depth) AnyValue.Empty)) (messages_of (any_value (any_levels depth) AnyValue.Empty)) (any_elements (any_levels depth)) ps s vs e
-many_back (Unbuilt k) same ps s vs e = e
 many_back k same ps s vs e = concats_back (MessageFault k) (MessagesOf (HasValue k (empty k))) (messages_of (value k (empty k))) (messages k same) ps (as_many k tt ps s) vs e
 
 -- ---- messages

@@ -13,3 +13,9 @@ returns-in_err-put_text-clause-err c = grind (arith, growing)
 
 pub returns-in_err-put_bytes-2-clause-err : goal.returns-in_err-put_bytes-2-clause-err
 returns-in_err-put_bytes-2-clause-err c = grind (arith, growing)
+
+pub returns-in_err-put_number-2-clause-err : goal.returns-in_err-put_number-2-clause-err
+returns-in_err-put_number-2-clause-err c = grind (arith, growing)
+
+pub returns-in_err-put_numbers-clause-err : goal.returns-in_err-put_numbers-clause-err
+returns-in_err-put_numbers-clause-err c = grind (arith, growing)

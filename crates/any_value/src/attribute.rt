@@ -1,0 +1,47 @@
+//! A key and its value as a message of the schema: an attribute, whose value has depth 1.
+ghost use Rattle.std.specs.Prelude.{refl};
+ghost use Rattle.schema.specs.Messages.{key_value};
+ghost use Rattle.any_value.specs.Views.{attribute_view};
+
+use crate::lengths::value_row_len;
+use crate::reading::take_value;
+use crate::value::{KeyValue, Value};
+use crate::writing::put_value;
+use pb_wire::{Blob, Field, NoMemory, ReadFault, Text, Wire, put_text, take_text, text_len};
+use std::alloc::Global;
+
+impl Wire for KeyValue {
+    ghost shape = { key_value 1 };
+
+    ghost view = { attribute_view };
+
+    ghost message = { tt };
+
+    ghost lawful = { refl };
+
+    fn none(alloc: Global) -> KeyValue {
+        KeyValue {
+            key: Text::begin(alloc),
+            value: Value::Empty,
+        }
+    }
+
+    fn take(&mut self, alloc: Global, field: &Field<'_>) -> Result<(), ReadFault> {
+        match field.number {
+            1 => take_text(&mut self.key, alloc, field),
+            2 => take_value(&mut self.value, alloc, field, 1),
+            _ => Ok(()),
+        }
+    }
+
+    fn rows_len(&self) -> u64 {
+        text_len(1, &self.key) + value_row_len(2, &self.value)
+    }
+
+    #[tactic(auto, using(pb_wire::proofs::Begins::growing))]
+    fn put_rows(&self, out: &mut Blob) -> Result<(), NoMemory> {
+        put_text(out, 1, &self.key)?;
+        put_value(out, 2, &self.value)?;
+        Ok(())
+    }
+}

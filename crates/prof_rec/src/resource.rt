@@ -1,0 +1,61 @@
+//! A resource.
+ghost use Rattle.std.specs.Prelude.{refl};
+ghost use Rattle.schema.specs.Messages.{resource};
+ghost use Rattle.prof_rec.specs.Views.{resource_view};
+
+use any_value::KeyValue;
+use pb_wire::{
+    Blob, Field, NoMemory, ReadFault, Repeated, Wire, add_bytes, add_message, bytes_list_len,
+    messages_len, number_len, put_bytes_list, put_messages, put_number, take_number,
+};
+use std::alloc::Global;
+
+/// What was profiled: a process, a container, a host.
+#[derive(Debug, Drop)]
+pub struct Resource {
+    pub attributes: Repeated<KeyValue>,
+    pub dropped_attributes_count: u32,
+    /// Elements that are carried unread, each with its own bytes.
+    pub opaque: Repeated<Blob>,
+}
+
+impl Wire for Resource {
+    ghost shape = { resource };
+
+    ghost view = { resource_view };
+
+    ghost message = { tt };
+
+    ghost lawful = { refl };
+
+    fn none(alloc: Global) -> Resource {
+        Resource {
+            attributes: Repeated::begin(alloc),
+            dropped_attributes_count: 0,
+            opaque: Repeated::begin(alloc),
+        }
+    }
+
+    fn take(&mut self, alloc: Global, field: &Field<'_>) -> Result<(), ReadFault> {
+        match field.number {
+            1 => add_message(&mut self.attributes, alloc, field),
+            2 => take_number(&mut self.dropped_attributes_count, field),
+            3 => add_bytes(&mut self.opaque, alloc, field),
+            _ => Ok(()),
+        }
+    }
+
+    fn rows_len(&self) -> u64 {
+        messages_len(1, &self.attributes)
+            + number_len(2, self.dropped_attributes_count)
+            + bytes_list_len(3, &self.opaque)
+    }
+
+    #[tactic(auto, using(pb_wire::proofs::Begins::growing))]
+    fn put_rows(&self, out: &mut Blob) -> Result<(), NoMemory> {
+        put_messages(out, 1, &self.attributes)?;
+        put_number(out, 2, self.dropped_attributes_count)?;
+        put_bytes_list(out, 3, &self.opaque)?;
+        Ok(())
+    }
+}

@@ -1,0 +1,65 @@
+//! An instrumentation scope.
+ghost use Rattle.std.specs.Prelude.{refl};
+ghost use Rattle.schema.specs.Messages.{scope};
+ghost use Rattle.prof_rec.specs.Views.{scope_view};
+
+use any_value::KeyValue;
+use pb_wire::{
+    Blob, Field, NoMemory, ReadFault, Repeated, Text, Wire, add_message, messages_len, number_len,
+    put_messages, put_number, put_text, take_number, take_text, text_len,
+};
+use std::alloc::Global;
+
+/// The library or component that made the profiles.
+#[derive(Debug, Drop)]
+pub struct Scope {
+    pub name: Text,
+    pub version: Text,
+    pub attributes: Repeated<KeyValue>,
+    pub dropped_attributes_count: u32,
+}
+
+impl Wire for Scope {
+    ghost shape = { scope };
+
+    ghost view = { scope_view };
+
+    ghost message = { tt };
+
+    ghost lawful = { refl };
+
+    fn none(alloc: Global) -> Scope {
+        Scope {
+            name: Text::begin(alloc),
+            version: Text::begin(alloc),
+            attributes: Repeated::begin(alloc),
+            dropped_attributes_count: 0,
+        }
+    }
+
+    fn take(&mut self, alloc: Global, field: &Field<'_>) -> Result<(), ReadFault> {
+        match field.number {
+            1 => take_text(&mut self.name, alloc, field),
+            2 => take_text(&mut self.version, alloc, field),
+            3 => add_message(&mut self.attributes, alloc, field),
+            4 => take_number(&mut self.dropped_attributes_count, field),
+            _ => Ok(()),
+        }
+    }
+
+    fn rows_len(&self) -> u64 {
+        text_len(1, &self.name)
+            + text_len(2, &self.version)
+            + messages_len(3, &self.attributes)
+            + number_len(4, self.dropped_attributes_count)
+    }
+
+    #[tactic(auto, using(pb_wire::proofs::Begins::growing))]
+    fn put_rows(&self, out: &mut Blob) -> Result<(), NoMemory> {
+        put_text(out, 1, &self.name)?;
+        put_text(out, 2, &self.version)?;
+        put_messages(out, 3, &self.attributes)?;
+        put_number(out, 4, self.dropped_attributes_count)?;
+        Ok(())
+    }
+}
