@@ -1,56 +1,45 @@
 -- The spelling of a new dictionary, and of a whole message.
 use Rattle.std.proofs.Common.{◌≡◌, ℕ, List, [], ◌∷◌, ◌++◌, map, refl, sym, ap, ◌∙◌, subst}
-use Rattle.std.proofs.lemmas.List.{append_assoc, append-nil}
+use Rattle.std.proofs.lemmas.List.{append_assoc}
 use Rattle.schema.specs.Shape.{Shape, IsMessage, Value, Table, Mappings, Locations, Functions, Links, Strings, Attributes, Stacks}
-use Rattle.schema.specs.Texts.{number_field, bytes_field, long_field, items_text}
+use Rattle.schema.specs.Each.{Each}
+use Rattle.schema.specs.Texts.{long_field, items_text}
 use Rattle.schema.specs.Spell.{spell}
 use Rattle.meaning.specs.Canonical.{zeros, values}
 use Rattle.meaning.specs.Meaning.{blank, resolve}
-use Rattle.meaning.specs.Message.{message, meaning_of, meaning_text, entry_text, table_text, dictionary_text, record_text}
+use Rattle.meaning.specs.Message.{message, meaning_of, meaning_text, table_text, dictionary_text, record_text}
 use Rattle.meaning.specs.Steps.{BecomeEach, Stands, WrittenEach}
 use Rattle.meaning.specs.Tables.{Tables, entry, field_of}
-use Rattle.meaning.specs.Tree.{Octets, octets_of, tree}
+use Rattle.meaning.specs.Tree.{tree}
 use Rattle.meaning.proofs.Interned.{begins}
 use Rattle.meaning.proofs.Places.{map-map}
 use Rattle.meaning.proofs.Texts.{draft-text}
 use Rattle.meaning.proofs.Trees.{value-tree}
+use Rattle.dict_rec.specs.declared.dictionary.Dictionary.{Dictionary}
+use Rattle.dict_rec.specs.Views.{dictionary_view}
+use Rattle.dict_build.specs.Renumbered.{Keys, Met, IsKey, IsReady, StepTexts, at, new_entries, old_entries}
+use Rattle.dict_build.proofs.Begun.{zeros_alone}
+use Rattle.dict_build.proofs.Keys.{key_texts}
 
 -- ---- the tables
 
--- the zero entry of a table is spelled by nothing
-zero_entry : (T : Table) → entry_text T (blank (entry T)) ≡ []
-unfolding number_field bytes_field
-zero_entry Mappings = refl
-zero_entry Locations = refl
-zero_entry Functions = refl
-zero_entry Links = refl
-zero_entry Strings = refl
-zero_entry Attributes = refl
-zero_entry Stacks = refl
+-- the keys of a table, each behind its tag and length, are its text
+table_is : (keys : Keys) → ((T : Table) → Each (IsKey T) (at keys T)) → (T : Table) → items_text (field_of T) (at keys T) ≡ table_text T (new_entries keys T)
+table_is keys h T = ap (items_text (field_of T)) (sym (key_texts T (at keys T) (h T)))
 
--- so a table of its zero entry alone is one element without bytes
-pub zero_table : (T : Table) → table_text T (blank (entry T) ∷ []) ≡ long_field (field_of T) []
-zero_table T = ap (λ t. long_field (field_of T) t ++ []) (zero_entry T) ∙ append-nil (long_field (field_of T) [])
-
--- the texts behind their trees
-octets-back : (texts : List (List ℕ)) → map octets_of (map Octets texts) ≡ texts
-octets-back [] = refl
-octets-back (t ∷ ts) = ap (λ l. t ∷ l) (octets-back ts)
-
--- a dictionary whose tables but that of the strings are their zero entries alone
-pub strings_alone : (k : Tables) (texts : List (List ℕ)) (bytes : List ℕ)
-    → k Mappings ≡ blank (entry Mappings) ∷ [] → k Locations ≡ blank (entry Locations) ∷ [] → k Functions ≡ blank (entry Functions) ∷ [] → k Links ≡ blank (entry Links) ∷ []
-    → k Strings ≡ map Octets texts → k Attributes ≡ blank (entry Attributes) ∷ [] → k Stacks ≡ blank (entry Stacks) ∷ []
-    → bytes ≡ long_field 1 [] ++ (long_field 2 [] ++ (long_field 3 [] ++ (long_field 4 [] ++ (items_text 5 texts ++ (long_field 6 [] ++ long_field 7 [])))))
-    → bytes ≡ dictionary_text k
-strings_alone k texts bytes a b c d e f g h =
-    let a' : table_text Mappings (k Mappings) ≡ long_field 1 [] = ap (table_text Mappings) a ∙ zero_table Mappings in
-    let b' : table_text Locations (k Locations) ≡ long_field 2 [] = ap (table_text Locations) b ∙ zero_table Locations in
-    let c' : table_text Functions (k Functions) ≡ long_field 3 [] = ap (table_text Functions) c ∙ zero_table Functions in
-    let d' : table_text Links (k Links) ≡ long_field 4 [] = ap (table_text Links) d ∙ zero_table Links in
-    let e' : table_text Strings (k Strings) ≡ items_text 5 texts = ap (table_text Strings) e ∙ ap (items_text 5) (octets-back texts) in
-    let f' : table_text Attributes (k Attributes) ≡ long_field 6 [] = ap (table_text Attributes) f ∙ zero_table Attributes in
-    let g' : table_text Stacks (k Stacks) ≡ long_field 7 [] = ap (table_text Stacks) g ∙ zero_table Stacks in
+-- and those of all tables, in the order of their fields, are the dictionary's
+pub all_tables : (keys : Keys) (bytes : List ℕ) → ((T : Table) → Each (IsKey T) (at keys T))
+    → bytes ≡ items_text 1 keys.mappings ++ (items_text 2 keys.locations ++ (items_text 3 keys.functions ++ (items_text 4 keys.links ++ (items_text 5 keys.strings
+    ++ (items_text 6 keys.attributes ++ items_text 7 keys.stacks)))))
+    → bytes ≡ dictionary_text (new_entries keys)
+all_tables keys bytes h e =
+    let a = table_is keys h Mappings in
+    let b = table_is keys h Locations in
+    let c = table_is keys h Functions in
+    let d = table_is keys h Links in
+    let f = table_is keys h Strings in
+    let g = table_is keys h Attributes in
+    let i = table_is keys h Stacks in
     cc
 
 -- ---- the whole
@@ -72,6 +61,14 @@ whole s m x d k k' news z h r e =
         let a : record_text s (tree s y) ≡ spell s y = ap (spell s) (value-tree s y) in
         let b : map (λ z. record_text s (tree s z)) ys ≡ map (spell s) ys = spelled ys in
         cc
+
+-- records that were written from the zero entries on, and the new dictionary behind them, are the canonical bytes
+pub whole_text : (s : Shape) → IsMessage s → (old : Dictionary) (rs : List (Value s)) (keys keys' : Keys) (met : Met) (texts tables bytes : List ℕ) → ((T : Table) → at keys T ≡ [] ∷ [])
+    → IsReady old keys' met → StepTexts s 1 old keys keys' rs texts → tables ≡ dictionary_text (new_entries keys') → bytes ≡ texts ++ long_field 2 tables
+    → bytes ≡ meaning_text s (meaning_of s (rs, (dictionary_view old, tt)))
+whole_text s m old rs keys keys' met texts tables bytes zero r t e h =
+    h ∙ ap (λ b. b ++ long_field 2 tables) t.is ∙ ap (λ b. items_text 1 (map (spell s) t.news) ++ long_field 2 b) e
+    ∙ whole s m (rs, (dictionary_view old, tt)) (old_entries old) (new_entries keys) (new_entries keys') t.news (zeros_alone keys zero) r.ready.stands t.steps refl
 
 -- seven texts, put one behind the other
 pub in_order : (a b c d e f g o1 o2 o3 o4 o5 o6 o7 : List ℕ) → o1 ≡ a → o2 ≡ o1 ++ b → o3 ≡ o2 ++ c → o4 ≡ o3 ++ d → o5 ≡ o4 ++ e → o6 ≡ o5 ++ f → o7 ≡ o6 ++ g

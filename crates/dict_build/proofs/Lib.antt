@@ -1,5 +1,12 @@
-pub mod Named
-pub mod Profiles
-pub mod Texts
-pub mod Dictionaries
+pub mod Keys
+pub mod Short
+pub mod Begun
 pub mod Placed
+pub mod Parts
+pub mod Steps
+pub mod Named
+pub mod Found
+pub mod Loops
+pub mod Texts
+pub mod OfProfiles
+pub mod Dictionaries

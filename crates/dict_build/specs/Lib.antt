@@ -1,1 +1,3 @@
 pub mod Renumbered
+pub mod Known
+pub mod OtherIndexes

@@ -1,20 +1,23 @@
 //! The canonical bytes of a message.
-ghost use Rattle.std.specs.Prelude.{◌≡◌, ◌<◌, ◌≤◌, ◌^◌, ◌++◌, [], length, map, IfOk, OnOk};
+ghost use Rattle.std.specs.Prelude.{◌≡◌, ◌<◌, ◌≤◌, ◌^◌, ◌++◌, [], ◌∷◌, length, map, replicate, None, IfOk, OnOk};
 ghost use Rattle.schema.specs.Each.{Each};
-ghost use Rattle.schema.specs.Messages.{resource_profiles};
-ghost use Rattle.schema.specs.Texts.{items_text, long_field};
+ghost use Rattle.schema.specs.Fits.{Fits};
+ghost use Rattle.schema.specs.Messages.{envelope, resource_profiles};
+ghost use Rattle.schema.specs.Shape.{Table};
 ghost use Rattle.schema.specs.Spell.{spell};
+ghost use Rattle.schema.specs.Texts.{items_text};
 ghost use Rattle.meaning.specs.Canonical.{IsWithin};
 ghost use Rattle.meaning.specs.Meaning.{HasZeros};
 ghost use Rattle.meaning.specs.Message.{dictionary_text, meaning_of, meaning_text};
+ghost use Rattle.meaning.specs.Tables.{entry, field_of};
 ghost use Rattle.meaning.specs.Tree.{tree};
 ghost use Rattle.dict_rec.specs.Views.{dictionary_view};
 ghost use Rattle.prof_rec.specs.Views.{resource_profiles_view};
-ghost use Rattle.dict_build.specs.Renumbered.{new_entries, old_entries};
+ghost use Rattle.dict_build.specs.Renumbered.{IsKey, IsPart, IsSource, at, new_entries, old_entries, table_of};
 
-use crate::renumbering::Renumbering;
-use crate::strings::Strings;
-use dict_rec::Dictionary;
+use crate::new_tables::NewTables;
+use crate::renumbering::{Renumbering, begin_renumbering};
+use dict_rec::{Dictionary, TableKind};
 use outside::Seeds;
 use pb_wire::{Blob, NoMemory, Payload, put_field};
 use prof_rec::ResourceProfiles;
@@ -24,7 +27,7 @@ use std::marker::Brand;
 use std::sync::ledger::{Blank, Ledger};
 
 /// The canonical bytes of the message of these records and this dictionary. Each table of the dictionary begins with its zero
-/// entry, and each index of the records is in its table.
+/// entry, each index, of an entry or of a record, is in its table, and the message can be written in few bytes.
 pub fn canonical_bytes<M: Seeds>(
     alloc: Global,
     dictionary: &Dictionary,
@@ -32,33 +35,66 @@ pub fn canonical_bytes<M: Seeds>(
     seeds: &mut M,
 ) -> Result<Blob, NoMemory>
     requires zeros { HasZeros (old_entries dictionary.now) }
-    requires inside { Each (λ x. IsWithin (old_entries dictionary.now) resource_profiles (tree resource_profiles x)) (map resource_profiles_view records.now) }
-    requires short { Each (λ x. length (spell resource_profiles x) < 2 ^ 62) (map resource_profiles_view records.now) }
+    requires entries { (T : Table) → Each (IsWithin (old_entries dictionary.now) (entry T)) (old_entries dictionary.now T) }
+    requires records { Each (IsWithin (old_entries dictionary.now) resource_profiles) (map (tree resource_profiles) (map resource_profiles_view records.now)) }
+    requires fits { Fits envelope (map resource_profiles_view records.now, (dictionary_view dictionary.now, tt)) }
+    requires short { length (spell envelope (map resource_profiles_view records.now, (dictionary_view dictionary.now, tt))) < 2 ^ 60 }
     ensures { IfOk result (λ b. b ≡ meaning_text resource_profiles (meaning_of resource_profiles (map resource_profiles_view records.now, (dictionary_view dictionary.now, tt)))) }
 {
-    let hasher = seeds.hasher()?;
-    renumbered_bytes::<M::H, Brand>(alloc, dictionary, records, hasher, Blank::new(1))
+    renumbered_bytes::<M, Brand>(alloc, dictionary, records, seeds, Blank::new(1))
 }
 
-// The same with a table that is hashed so, and a counter of steps over this ledger.
-fn renumbered_bytes<S: BuildHasher + Drop, L: Ledger>(
+// The same with a counter of steps over this ledger.
+fn renumbered_bytes<M: Seeds, L: Ledger>(
     alloc: Global,
     dictionary: &Dictionary,
     records: &[ResourceProfiles],
-    hasher: S,
+    seeds: &mut M,
     blank: Blank,
 ) -> Result<Blob, NoMemory>
     requires name { blank.name ≡ L.name }
-    requires parts { blank.parts ≡ L.parts }
+    requires ledger_parts { blank.parts ≡ L.parts }
     requires some { 0 < blank.parts }
-    requires zeros { HasZeros (old_entries dictionary.now) }
-    requires inside { Each (λ x. IsWithin (old_entries dictionary.now) resource_profiles (tree resource_profiles x)) (map resource_profiles_view records.now) }
-    requires short { Each (λ x. length (spell resource_profiles x) < 2 ^ 62) (map resource_profiles_view records.now) }
+    requires source { IsSource dictionary.now }
+    requires parts { Each (IsPart resource_profiles dictionary.now) (map resource_profiles_view records.now) }
     ensures { IfOk result (λ b. b ≡ meaning_text resource_profiles (meaning_of resource_profiles (map resource_profiles_view records.now, (dictionary_view dictionary.now, tt)))) }
 {
-    let mut state = Renumbering::<S, L>::begin(alloc, dictionary, hasher, blank)?;
+    let state = begin_renumbering::<M, L>(alloc, dictionary, seeds, blank)?;
+    let bytes = begun_text(alloc, dictionary, records, state)?;
+    Ok(bytes)
+}
+
+// The same with these tables, which are dropped.
+fn begun_text<S: BuildHasher + Drop, L: Ledger>(
+    alloc: Global,
+    dictionary: &Dictionary,
+    records: &[ResourceProfiles],
+    mut state: Renumbering<S, L>,
+) -> Result<Blob, NoMemory>
+    requires tables { (T : Table) → at state.tables T ≡ [] ∷ [] }
+    requires met { (T : Table) → at state.met T ≡ replicate (length (old_entries dictionary.now T)) None }
+    requires source { IsSource dictionary.now }
+    requires parts { Each (IsPart resource_profiles dictionary.now) (map resource_profiles_view records.now) }
+    ensures { IfOk result (λ b. b ≡ meaning_text resource_profiles (meaning_of resource_profiles (map resource_profiles_view records.now, (dictionary_view dictionary.now, tt)))) }
+{
+    message_text(alloc, dictionary, records, &mut state)
+}
+
+// The records with their new indexes, and the new dictionary behind them, from the zero entries on.
+fn message_text<S: BuildHasher + Drop, L: Ledger>(
+    alloc: Global,
+    dictionary: &Dictionary,
+    records: &[ResourceProfiles],
+    state: &mut Renumbering<S, L>,
+) -> Result<Blob, NoMemory>
+    requires tables { (T : Table) → at state.old.tables T ≡ [] ∷ [] }
+    requires met { (T : Table) → at state.old.met T ≡ replicate (length (old_entries dictionary.now T)) None }
+    requires source { IsSource dictionary.now }
+    requires parts { Each (IsPart resource_profiles dictionary.now) (map resource_profiles_view records.now) }
+    ensures { IfOk result (λ b. b ≡ meaning_text resource_profiles (meaning_of resource_profiles (map resource_profiles_view records.now, (dictionary_view dictionary.now, tt)))) }
+{
     let mut bytes = state.resource_texts(alloc, dictionary, records)?;
-    let tables = tables_text(alloc, &state.strings)?;
+    let tables = tables_text(alloc, &state.tables)?;
     put_field(&mut bytes, 2, &Payload::Bytes(tables.as_slice()))?;
     Ok(bytes)
 }
@@ -66,40 +102,51 @@ fn renumbered_bytes<S: BuildHasher + Drop, L: Ledger>(
 // The spelling of the new dictionary.
 fn tables_text<S: BuildHasher + Drop, L: Ledger>(
     alloc: Global,
-    strings: &Strings<S, L>,
+    tables: &NewTables<S, L>,
 ) -> Result<Blob, NoMemory>
-    ensures { IfOk result (λ b. b ≡ dictionary_text (new_entries strings.now)) }
+    requires { (T : Table) → Each (IsKey T) (at tables.now T) }
+    ensures { IfOk result (λ b. b ≡ dictionary_text (new_entries tables.now)) }
 {
     let mut bytes = Blob::begin(alloc);
-    put_zero_entry(&mut bytes, 1)?;
-    put_zero_entry(&mut bytes, 2)?;
-    put_zero_entry(&mut bytes, 3)?;
-    put_zero_entry(&mut bytes, 4)?;
-    put_strings(&mut bytes, strings)?;
-    put_zero_entry(&mut bytes, 6)?;
-    put_zero_entry(&mut bytes, 7)?;
+    put_table(&mut bytes, tables, TableKind::Mapping)?;
+    put_table(&mut bytes, tables, TableKind::Location)?;
+    put_table(&mut bytes, tables, TableKind::Function)?;
+    put_table(&mut bytes, tables, TableKind::Link)?;
+    put_table(&mut bytes, tables, TableKind::String)?;
+    put_table(&mut bytes, tables, TableKind::Attribute)?;
+    put_table(&mut bytes, tables, TableKind::Stack)?;
     Ok(bytes)
 }
 
-// The zero entry of a table, which has an empty spelling.
-fn put_zero_entry(out: &mut Blob, table: u32) -> Result<(), NoMemory>
-    requires above { 1 ≤ table }
-    requires below { table ≤ 7 }
-    ensures { OnOk result (out.new ≡ out.old ++ long_field table []) }
+// The number of a table's field in the dictionary.
+fn number_of(kind: TableKind) -> u32
+    ensures is { result ≡ field_of (table_of kind) }
+    ensures above { 1 ≤ result }
+    ensures below { result ≤ 7 }
 {
-    put_field(out, table, &Payload::Bytes(&[]))
+    match kind {
+        TableKind::Mapping => 1,
+        TableKind::Location => 2,
+        TableKind::Function => 3,
+        TableKind::Link => 4,
+        TableKind::String => 5,
+        TableKind::Attribute => 6,
+        TableKind::Stack => 7,
+    }
 }
 
-// The strings, each behind its tag and length.
-fn put_strings<S: BuildHasher + Drop, L: Ledger>(
+// The entries of a table, each behind its tag and length.
+fn put_table<S: BuildHasher + Drop, L: Ledger>(
     out: &mut Blob,
-    strings: &Strings<S, L>,
+    tables: &NewTables<S, L>,
+    kind: TableKind,
 ) -> Result<(), NoMemory>
-    ensures { OnOk result (out.new ≡ out.old ++ items_text 5 strings.now) }
+    ensures { OnOk result (out.new ≡ out.old ++ items_text (field_of (table_of kind)) (at tables.now (table_of kind))) }
 {
-    for place in 0..strings.len() {
-        let text = strings.text(place);
-        if let Err(stop) = put_field(out, 5, &Payload::Bytes(text)) {
+    let number = number_of(kind);
+    for place in 0..tables.len(kind) {
+        let key = tables.key(kind, place);
+        if let Err(stop) = put_field(out, number, &Payload::Bytes(key)) {
             return Err(stop);
         }
     }

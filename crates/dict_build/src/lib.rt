@@ -2,10 +2,12 @@
 #![tactic(auto)]
 
 mod canonical;
+mod entries;
 mod fault;
+mod met;
+mod new_tables;
 mod records;
 mod renumbering;
-mod strings;
 
 pub use canonical::canonical_bytes;
 pub use fault::BuildFault;

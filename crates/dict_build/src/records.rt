@@ -1,92 +1,130 @@
 //! The records of a message with their new indexes, spelled.
-ghost use Rattle.std.specs.Prelude.{◌≡◌, ◌+◌, ◌<◌, ◌≤◌, ◌^◌, length, map, IfOk, OnOk};
+ghost use Rattle.std.specs.Prelude.{◌≡◌, ◌+◌, ◌<◌, ◌^◌, ◌++◌, [], length, map, IfOk, OnOk};
 ghost use Rattle.schema.specs.Each.{Each};
-ghost use Rattle.schema.specs.Messages.{plain_profile, resource_profiles, scope_profiles};
-ghost use Rattle.schema.specs.Spell.{spell};
-ghost use Rattle.meaning.specs.Canonical.{IsWithin};
-ghost use Rattle.meaning.specs.Meaning.{HasZeros};
-ghost use Rattle.meaning.specs.Tree.{tree};
-ghost use Rattle.prof_rec.specs.Views.{profile_view, resource_profiles_view, scope_profiles_view};
-ghost use Rattle.dict_build.specs.Renumbered.{IsReady, Step, StepText, StepTexts, old_entries};
+ghost use Rattle.schema.specs.Messages.{profile, resource_profiles, sample, scope_profiles, value_type};
+ghost use Rattle.schema.specs.Spell.{len_onto, spell, spell_onto};
+ghost use Rattle.schema.specs.Texts.{bytes_field};
+ghost use Rattle.prof_rec.specs.Views.{profile_view, resource_profiles_view, sample_view, scope_profiles_view, value_type_view};
+ghost use Rattle.dict_build.specs.OtherIndexes.{later_rows, later_with, sample_with};
+ghost use Rattle.dict_build.specs.Renumbered.{IsPart, IsReady, IsSource, Step, StepText, StepTexts};
 
 use crate::renumbering::Renumbering;
 use dict_rec::Dictionary;
-use pb_wire::{Blob, NoMemory, Payload, Text, Wire, put_field};
-use prof_rec::{Profile, ResourceProfiles, ScopeProfiles};
+use pb_wire::{
+    Blob, NoMemory, Payload, Repeated, put_bytes, put_field, put_fixed, put_fixed_list,
+    put_message, put_number, put_numbers, put_text,
+};
+use prof_rec::{Profile, ResourceProfiles, Sample, ScopeProfiles, ValueType};
 use std::alloc::Global;
 use std::hash::BuildHasher;
 use std::sync::ledger::Ledger;
 
+// The spelling of a sample with these indexes.
+#[tactic(auto, using(pb_wire::proofs::Begins::growing))]
+fn sample_with(
+    alloc: Global,
+    found: &Sample,
+    stack_index: i32,
+    attribute_indices: &Repeated<i32>,
+    link_index: i32,
+) -> Result<Blob, NoMemory>
+    requires { len_onto sample 0 (sample_with found.now stack_index attribute_indices.now link_index) < 2 ^ 63 }
+    ensures { IfOk result (λ text. text ≡ spell_onto sample [] (sample_with found.now stack_index attribute_indices.now link_index)) }
+{
+    let mut text = Blob::begin(alloc);
+    put_number(&mut text, 1, stack_index)?;
+    put_numbers(&mut text, 2, &found.values)?;
+    put_numbers(&mut text, 3, attribute_indices)?;
+    put_number(&mut text, 4, link_index)?;
+    put_fixed_list(&mut text, 5, &found.timestamps_unix_nano)?;
+    Ok(text)
+}
+
+// The spelling of a profile with these types and attributes, and with samples that are spelled already.
+#[tactic(auto, using(pb_wire::proofs::Begins::growing))]
+fn profile_with(
+    alloc: Global,
+    found: &Profile,
+    sample_type: &ValueType,
+    samples: &Blob,
+    period_type: &ValueType,
+    attribute_indices: &Repeated<i32>,
+) -> Result<Blob, NoMemory>
+    requires { len_onto later_rows (length (bytes_field 1 (spell value_type (value_type_view sample_type.now))) + length samples.now) (later_with found.now period_type.now attribute_indices.now) < 2 ^ 63 }
+    ensures { IfOk result (λ text. text ≡ spell_onto later_rows (bytes_field 1 (spell value_type (value_type_view sample_type.now)) ++ samples.now) (later_with found.now period_type.now attribute_indices.now)) }
+{
+    let mut text = Blob::begin(alloc);
+    put_message(&mut text, 1, sample_type)?;
+    text.append(samples.as_slice())?;
+    put_fixed(&mut text, 3, found.time_unix_nano)?;
+    put_number(&mut text, 4, found.duration_nano)?;
+    put_message(&mut text, 5, period_type)?;
+    put_number(&mut text, 6, found.period)?;
+    put_bytes(&mut text, 7, &found.profile_id)?;
+    put_number(&mut text, 8, found.dropped_attributes_count)?;
+    put_text(&mut text, 9, &found.original_payload_format)?;
+    put_bytes(&mut text, 10, &found.original_payload)?;
+    put_numbers(&mut text, 11, attribute_indices)?;
+    Ok(text)
+}
+
 impl<S: BuildHasher + Drop, L: Ledger> Renumbering<S, L> {
-    // A profile with its new indexes.
-    fn profile(
+    // The type and the unit of values, with their new indexes.
+    fn value_type(
         &mut self,
         alloc: Global,
         old: &Dictionary,
-        found: &Profile,
-    ) -> Result<Profile, NoMemory>
-        requires ready { IsReady old.now self.old.strings self.old.met.items }
-        requires zeros { HasZeros (old_entries old.now) }
-        requires inside { IsWithin (old_entries old.now) plain_profile (tree plain_profile (profile_view found.now)) }
-        ensures ready { OnOk result (IsReady old.now self.new.strings self.new.met.items) }
-        ensures step { IfOk result (λ new. Step plain_profile old.now self.old.strings self.new.strings (profile_view found.now) (profile_view new)) }
-        ensures short { IfOk result (λ new. length (spell plain_profile (profile_view new)) ≤ length (spell plain_profile (profile_view found.now)) + 120) }
+        found: &ValueType,
+    ) -> Result<ValueType, NoMemory>
+        requires ready { IsReady old.now self.old.tables self.old.met }
+        requires source { IsSource old.now }
+        requires part { IsPart value_type old.now (value_type_view found.now) }
+        ensures ready { OnOk result (IsReady old.now self.new.tables self.new.met) }
+        ensures step { IfOk result (λ new. Step value_type old.now self.old.tables self.new.tables (value_type_view found.now) (value_type_view new)) }
     {
-        let sample_type = self.value_type(alloc, old, &found.sample_type)?;
-        let period_type = self.value_type(alloc, old, &found.period_type)?;
-        let profile_id = Blob::copy_of(alloc, found.profile_id.as_slice())?;
-        let original_payload_format = Text::copy_of(alloc, found.original_payload_format.as_str())?;
-        let original_payload = Blob::copy_of(alloc, found.original_payload.as_slice())?;
-        Ok(Profile {
-            sample_type,
-            time_unix_nano: found.time_unix_nano,
-            duration_nano: found.duration_nano,
-            period_type,
-            period: found.period,
-            profile_id,
-            dropped_attributes_count: found.dropped_attributes_count,
-            original_payload_format,
-            original_payload,
+        let type_strindex = self.string(alloc, old, found.type_strindex)?;
+        let unit_strindex = self.string(alloc, old, found.unit_strindex)?;
+        Ok(ValueType {
+            type_strindex,
+            unit_strindex,
         })
     }
 
-    // The spelling of a profile with its new indexes.
-    fn profile_text(
+    // The spelling of a sample with its new indexes.
+    fn sample_text(
         &mut self,
         alloc: Global,
         old: &Dictionary,
-        found: &Profile,
+        found: &Sample,
     ) -> Result<Blob, NoMemory>
-        requires ready { IsReady old.now self.old.strings self.old.met.items }
-        requires zeros { HasZeros (old_entries old.now) }
-        requires inside { IsWithin (old_entries old.now) plain_profile (tree plain_profile (profile_view found.now)) }
-        requires short { length (spell plain_profile (profile_view found.now)) < 2 ^ 62 }
-        ensures ready { OnOk result (IsReady old.now self.new.strings self.new.met.items) }
-        ensures text { IfOk result (StepText plain_profile old.now self.old.strings self.new.strings (profile_view found.now)) }
+        requires ready { IsReady old.now self.old.tables self.old.met }
+        requires source { IsSource old.now }
+        requires part { IsPart sample old.now (sample_view found.now) }
+        ensures ready { OnOk result (IsReady old.now self.new.tables self.new.met) }
+        ensures text { IfOk result (StepText sample old.now self.old.tables self.new.tables (sample_view found.now)) }
     {
-        let new = self.profile(alloc, old, found)?;
-        let mut text = Blob::begin(alloc);
-        new.write(&mut text)?;
-        Ok(text)
+        let stack_index = self.stack(alloc, old, found.stack_index)?;
+        let attribute_indices = self.attributes(alloc, old, &found.attribute_indices)?;
+        let link_index = self.link(alloc, old, found.link_index)?;
+        sample_with(alloc, found, stack_index, &attribute_indices, link_index)
     }
 
-    // The same of a scope record.
-    fn scope_text(
+    // The spellings of samples with their new indexes, each behind its tag and length.
+    fn sample_texts(
         &mut self,
         alloc: Global,
         old: &Dictionary,
-        found: &ScopeProfiles,
+        found: &Repeated<Sample>,
     ) -> Result<Blob, NoMemory>
-        requires ready { IsReady old.now self.old.strings self.old.met.items }
-        requires zeros { HasZeros (old_entries old.now) }
-        requires inside { IsWithin (old_entries old.now) scope_profiles (tree scope_profiles (scope_profiles_view found.now)) }
-        requires short { length (spell scope_profiles (scope_profiles_view found.now)) < 2 ^ 62 }
-        ensures ready { OnOk result (IsReady old.now self.new.strings self.new.met.items) }
-        ensures text { IfOk result (StepText scope_profiles old.now self.old.strings self.new.strings (scope_profiles_view found.now)) }
+        requires ready { IsReady old.now self.old.tables self.old.met }
+        requires source { IsSource old.now }
+        requires parts { Each (IsPart sample old.now) (map sample_view found.now) }
+        ensures ready { OnOk result (IsReady old.now self.new.tables self.new.met) }
+        ensures texts { IfOk result (StepTexts sample 2 old.now self.old.tables self.new.tables (map sample_view found.now)) }
     {
         let mut texts = Blob::begin(alloc);
-        for profile in found.profiles.as_slice() {
-            let text = match self.profile_text(alloc, old, profile) {
+        for sample in found.as_slice() {
+            let text = match self.sample_text(alloc, old, sample) {
                 Ok(text) => text,
                 Err(stop) => return Err(stop),
             };
@@ -97,21 +135,76 @@ impl<S: BuildHasher + Drop, L: Ledger> Renumbering<S, L> {
         Ok(texts)
     }
 
-    // The same of a resource record.
+    // The spelling of a profile with its new indexes.
+    fn profile_text(
+        &mut self,
+        alloc: Global,
+        old: &Dictionary,
+        found: &Profile,
+    ) -> Result<Blob, NoMemory>
+        requires ready { IsReady old.now self.old.tables self.old.met }
+        requires source { IsSource old.now }
+        requires part { IsPart profile old.now (profile_view found.now) }
+        ensures ready { OnOk result (IsReady old.now self.new.tables self.new.met) }
+        ensures text { IfOk result (StepText profile old.now self.old.tables self.new.tables (profile_view found.now)) }
+    {
+        let sample_type = self.value_type(alloc, old, &found.sample_type)?;
+        let samples = self.sample_texts(alloc, old, &found.samples)?;
+        let period_type = self.value_type(alloc, old, &found.period_type)?;
+        let attribute_indices = self.attributes(alloc, old, &found.attribute_indices)?;
+        profile_with(
+            alloc,
+            found,
+            &sample_type,
+            &samples,
+            &period_type,
+            &attribute_indices,
+        )
+    }
+
+    // The spelling of a scope record with its new indexes.
+    fn scope_text(
+        &mut self,
+        alloc: Global,
+        old: &Dictionary,
+        found: &ScopeProfiles,
+    ) -> Result<Blob, NoMemory>
+        requires ready { IsReady old.now self.old.tables self.old.met }
+        requires source { IsSource old.now }
+        requires part { IsPart scope_profiles old.now (scope_profiles_view found.now) }
+        ensures ready { OnOk result (IsReady old.now self.new.tables self.new.met) }
+        ensures text { IfOk result (StepText scope_profiles old.now self.old.tables self.new.tables (scope_profiles_view found.now)) }
+    {
+        let mut texts = Blob::begin(alloc);
+        put_message(&mut texts, 1, &found.scope)?;
+        for profile in found.profiles.as_slice() {
+            let text = match self.profile_text(alloc, old, profile) {
+                Ok(text) => text,
+                Err(stop) => return Err(stop),
+            };
+            if let Err(stop) = put_field(&mut texts, 2, &Payload::Bytes(text.as_slice())) {
+                return Err(stop);
+            }
+        }
+        put_text(&mut texts, 3, &found.schema_url)?;
+        Ok(texts)
+    }
+
+    // The spelling of a resource record with its new indexes.
     fn resource_text(
         &mut self,
         alloc: Global,
         old: &Dictionary,
         found: &ResourceProfiles,
     ) -> Result<Blob, NoMemory>
-        requires ready { IsReady old.now self.old.strings self.old.met.items }
-        requires zeros { HasZeros (old_entries old.now) }
-        requires inside { IsWithin (old_entries old.now) resource_profiles (tree resource_profiles (resource_profiles_view found.now)) }
-        requires short { length (spell resource_profiles (resource_profiles_view found.now)) < 2 ^ 62 }
-        ensures ready { OnOk result (IsReady old.now self.new.strings self.new.met.items) }
-        ensures text { IfOk result (StepText resource_profiles old.now self.old.strings self.new.strings (resource_profiles_view found.now)) }
+        requires ready { IsReady old.now self.old.tables self.old.met }
+        requires source { IsSource old.now }
+        requires part { IsPart resource_profiles old.now (resource_profiles_view found.now) }
+        ensures ready { OnOk result (IsReady old.now self.new.tables self.new.met) }
+        ensures text { IfOk result (StepText resource_profiles old.now self.old.tables self.new.tables (resource_profiles_view found.now)) }
     {
         let mut texts = Blob::begin(alloc);
+        put_message(&mut texts, 1, &found.resource)?;
         for scope in found.scope_profiles.as_slice() {
             let text = match self.scope_text(alloc, old, scope) {
                 Ok(text) => text,
@@ -121,6 +214,7 @@ impl<S: BuildHasher + Drop, L: Ledger> Renumbering<S, L> {
                 return Err(stop);
             }
         }
+        put_text(&mut texts, 3, &found.schema_url)?;
         Ok(texts)
     }
 
@@ -131,12 +225,11 @@ impl<S: BuildHasher + Drop, L: Ledger> Renumbering<S, L> {
         old: &Dictionary,
         records: &[ResourceProfiles],
     ) -> Result<Blob, NoMemory>
-        requires ready { IsReady old.now self.old.strings self.old.met.items }
-        requires zeros { HasZeros (old_entries old.now) }
-        requires inside { Each (λ x. IsWithin (old_entries old.now) resource_profiles (tree resource_profiles x)) (map resource_profiles_view records.now) }
-        requires short { Each (λ x. length (spell resource_profiles x) < 2 ^ 62) (map resource_profiles_view records.now) }
-        ensures ready { OnOk result (IsReady old.now self.new.strings self.new.met.items) }
-        ensures texts { IfOk result (StepTexts resource_profiles 1 old.now self.old.strings self.new.strings (map resource_profiles_view records.now)) }
+        requires ready { IsReady old.now self.old.tables self.old.met }
+        requires source { IsSource old.now }
+        requires parts { Each (IsPart resource_profiles old.now) (map resource_profiles_view records.now) }
+        ensures ready { OnOk result (IsReady old.now self.new.tables self.new.met) }
+        ensures texts { IfOk result (StepTexts resource_profiles 1 old.now self.old.tables self.new.tables (map resource_profiles_view records.now)) }
     {
         let mut texts = Blob::begin(alloc);
         for resource in records {

@@ -1,92 +1,85 @@
 //! The new indexes of old ones.
-ghost use Rattle.std.specs.Prelude.{◌≡◌, ◌<◌, ◌∷◌, [], length, replicate, None, IfOk, OnOk};
-ghost use Rattle.schema.specs.Messages.{string, value_type};
-ghost use Rattle.meaning.specs.Canonical.{IsWithin};
-ghost use Rattle.meaning.specs.Meaning.{HasZeros};
-ghost use Rattle.meaning.specs.Tree.{tree};
-ghost use Rattle.prof_rec.specs.Views.{value_type_view};
-ghost use Rattle.dict_build.specs.Renumbered.{IsReady, Step, old_entries};
+ghost use Rattle.std.specs.Prelude.{◌≡◌, ◌<◌, ◌∷◌, [], pos, length, replicate, None, IfOk, OnOk};
+ghost use Rattle.schema.specs.Shape.{Table as OfSchema};
+ghost use Rattle.dict_build.specs.Known.{IsKnown};
+ghost use Rattle.dict_build.specs.Renumbered.{IsKeyOf, IsPart, IsReady, IsSource, Step, at, index_into, old_entries, table_of};
 
-use crate::strings::Strings;
-use dict_rec::Dictionary;
-use pb_wire::NoMemory;
-use prof_rec::ValueType;
-use std::alloc::{AllocError, Global};
+use crate::met::Met;
+use crate::new_tables::{NewTables, zero_tables};
+use dict_rec::{Dictionary, TableKind};
+use outside::Seeds;
+use pb_wire::{Blob, NoMemory};
+use std::alloc::Global;
 use std::hash::BuildHasher;
 use std::sync::ledger::{Blank, Ledger};
+use tables::EntryKey;
 
-/// The strings of a new dictionary, and the new index of each string of an old one that was met.
+/// The tables of a new dictionary, and the new index of each entry of an old one that was met.
 #[derive(Drop)]
 pub(crate) struct Renumbering<S: BuildHasher, L: Ledger> {
-    pub strings: Strings<S, L>,
-    pub met: Vec<Option<u32>>,
+    pub tables: NewTables<S, L>,
+    pub met: Met,
 }
 
-// So many indexes, of which none was met.
-fn none_met(alloc: Global, len: usize) -> Result<Vec<Option<u32>>, AllocError>
-    ensures { IfOk result (λ met. met.items ≡ replicate len None) }
+/// What is known of an old index: its new one, or else where its entry stands.
+#[derive(Clone, Copy, Debug)]
+pub(crate) enum Known {
+    New(i32),
+    Unmet(usize),
+}
+
+/// The zero entries alone, and no index that was met.
+pub(crate) fn begin_renumbering<M: Seeds, L: Ledger>(
+    alloc: Global,
+    old: &Dictionary,
+    seeds: &mut M,
+    blank: Blank,
+) -> Result<Renumbering<M::H, L>, NoMemory>
+    requires name { blank.name ≡ L.name }
+    requires parts { blank.parts ≡ L.parts }
+    requires some { 0 < blank.parts }
+    ensures tables { IfOk result (λ r. (T : OfSchema) → at r.tables T ≡ [] ∷ []) }
+    ensures met { IfOk result (λ r. (T : OfSchema) → at r.met T ≡ replicate (length (old_entries old.now T)) None) }
 {
-    vec![in alloc; None; len]
+    let tables = zero_tables(alloc, seeds, blank)?;
+    let met = Met::begin(alloc, old)?;
+    Ok(Renumbering { tables, met })
 }
 
 impl<S: BuildHasher + Drop, L: Ledger> Renumbering<S, L> {
-    /// The zero entries alone, and no index that was met.
-    pub fn begin(
-        alloc: Global,
-        old: &Dictionary,
-        hasher: S,
-        blank: Blank,
-    ) -> Result<Renumbering<S, L>, NoMemory>
-        requires name { blank.name ≡ L.name }
-        requires parts { blank.parts ≡ L.parts }
-        requires some { 0 < blank.parts }
-        ensures strings { IfOk result (λ r. r.strings ≡ [] ∷ []) }
-        ensures met { IfOk result (λ r. r.met.items ≡ replicate (length old.now.string_table) None) }
-    {
-        let strings = Strings::begin(alloc, hasher, blank)?;
-        let met = none_met(alloc, old.string_table.len())?;
-        Ok(Renumbering { strings, met })
-    }
-
-    /// The new index of a string.
-    pub fn string(&mut self, alloc: Global, old: &Dictionary, index: i32) -> Result<i32, NoMemory>
-        requires ready { IsReady old.now self.old.strings self.old.met.items }
-        requires zeros { HasZeros (old_entries old.now) }
-        requires inside { IsWithin (old_entries old.now) string (tree string index) }
-        ensures ready { OnOk result (IsReady old.now self.new.strings self.new.met.items) }
-        ensures step { IfOk result (λ new. Step string old.now self.old.strings self.new.strings index new) }
+    /// What is known of an index into a table of the old dictionary.
+    pub fn known(&self, _old: &Dictionary, kind: TableKind, index: i32) -> Known
+        requires ready { IsReady _old.now self.now.tables self.now.met }
+        requires source { IsSource _old.now }
+        requires part { IsPart (index_into (table_of kind)) _old.now index }
+        ensures { IsKnown (table_of kind) _old.now self.now.tables index result }
     {
         if index == 0 {
-            return Ok(0);
+            return Known::New(0);
         }
         let place = index as usize;
-        if let Some(new) = self.met[place] {
-            return Ok(new as i32);
+        match self.met.get(kind, place) {
+            Some(new) => Known::New(new as i32),
+            None => Known::Unmet(place),
         }
-        let text = &old.string_table.as_slice()[place];
-        let new = self.strings.intern(alloc, text.as_str())?;
-        self.met[place] = Some(new);
-        Ok(new as i32)
     }
 
-    /// The type and the unit of values, with their new indexes.
-    pub fn value_type(
+    /// The new index of the entry at a place of the old dictionary, which becomes the entry with this key.
+    pub fn enter(
         &mut self,
-        alloc: Global,
-        old: &Dictionary,
-        found: &ValueType,
-    ) -> Result<ValueType, NoMemory>
-        requires ready { IsReady old.now self.old.strings self.old.met.items }
-        requires zeros { HasZeros (old_entries old.now) }
-        requires inside { IsWithin (old_entries old.now) value_type (tree value_type (value_type_view found.now)) }
-        ensures ready { OnOk result (IsReady old.now self.new.strings self.new.met.items) }
-        ensures step { IfOk result (λ new. Step value_type old.now self.old.strings self.new.strings (value_type_view found.now) (value_type_view new)) }
+        _old: &Dictionary,
+        kind: TableKind,
+        place: usize,
+        key: Blob,
+    ) -> Result<i32, NoMemory>
+        requires ready { IsReady _old.now self.old.tables self.old.met }
+        requires place { place < length (old_entries _old.now (table_of kind)) }
+        requires key { IsKeyOf (table_of kind) _old.now self.old.tables place key }
+        ensures ready { OnOk result (IsReady _old.now self.new.tables self.new.met) }
+        ensures step { IfOk result (λ new. Step (index_into (table_of kind)) _old.now self.old.tables self.new.tables (pos place) new) }
     {
-        let type_strindex = self.string(alloc, old, found.type_strindex)?;
-        let unit_strindex = self.string(alloc, old, found.unit_strindex)?;
-        Ok(ValueType {
-            type_strindex,
-            unit_strindex,
-        })
+        let new = self.tables.intern(kind, EntryKey::from_blob(key))?;
+        self.met.note(kind, place, new);
+        Ok(new as i32)
     }
 }

@@ -105,27 +105,6 @@ canon_apart m n f g b e q =
 
 -- ---- the code
 
--- each record is spelled with fewer bytes than the message
-pub records_short : (m : Message) → length (spell envelope m) < 2 ^ 62 → Each (λ x. length (spell resource_profiles x) < 2 ^ 62) m.0
-records_short m short = each_short m.0 (omega (arith, length-append (items_text 1 (map (spell resource_profiles) m.0)) (bytes_field 2 (spell dictionary m.1.0) ++ [])))
-  where
-    each_short : (xs : List (Value resource_profiles)) → length (items_text 1 (map (spell resource_profiles) xs)) < 2 ^ 62 → Each (λ x. length (spell resource_profiles x) < 2 ^ 62) xs
-    each_short [] h = tt
-    each_short (x ∷ xs) h =
-        let l = long_len 1 (spell resource_profiles x) in
-        let a = length-append (long_field 1 (spell resource_profiles x)) (items_text 1 (map (spell resource_profiles) xs)) in
-        (omega arith, each_short xs (omega arith))
-
--- the indexes of records whose trees have theirs in their tables
-each_tree : (P : Tree → Type 0) (xs : List (Value resource_profiles)) → Each P (map (tree resource_profiles) xs) → Each (λ x. P (tree resource_profiles x)) xs
-each_tree P [] h = tt
-each_tree P (x ∷ xs) h = (h.0, each_tree P xs h.1)
-
-pub records_within : (w m : Message) → w ≡ m → Each (IsWithin (tables_in m.1.0) resource_profiles) (map (tree resource_profiles) m.0)
-    → Each (λ x. IsWithin (tables_in w.1.0) resource_profiles (tree resource_profiles x)) w.0
-records_within w m e h =
-    subst (λ (x : Message). Each (λ r. IsWithin (tables_in x.1.0) resource_profiles (tree resource_profiles r)) x.0) (sym e) (each_tree (IsWithin (tables_in m.1.0) resource_profiles) m.0 h)
-
 -- the message of these records
 abbrev pub message_with : List ResourceProfiles → declared.Message → Message
 message_with records found = (map resource_profiles_view records, (dictionary_view found.dictionary, tt))

@@ -1,31 +1,45 @@
 use Rattle.std.proofs.Common.{◌<◌, ◌^◌, ℕ, List, length, map, Result, Err, sym, ap, ◌∙◌, subst, arith}
 use Rattle.schema.specs.Each.{Each}
-use Rattle.schema.specs.Messages.{resource_profiles}
+use Rattle.schema.specs.Fits.{Fits}
+use Rattle.schema.specs.Messages.{resource_profiles, envelope}
+use Rattle.schema.specs.Shape.{Table}
 use Rattle.schema.specs.Spell.{spell}
 use Rattle.meaning.specs.Canonical.{IsWithin}
+use Rattle.meaning.specs.Meaning.{HasZeros}
+use Rattle.meaning.specs.Message.{tables_in}
+use Rattle.meaning.specs.Tables.{entry}
 use Rattle.meaning.specs.Tree.{tree}
-use Rattle.prof_rec.specs.Views.{resource_profiles_view}
 use Rattle.otlp_msg.specs.Checked.{value_of}
 use Rattle.otlp_msg.specs.Message.{Message}
-use Rattle.otlp_msg.specs.Views.{message_view}
-use Rattle.dict_build.specs.Renumbered.{old_entries}
 use Rattle.dict_build.specs.declared.fault.BuildFault.{BuildFault}
 use Rattle.dict_build.specs.declared.fault.BuildFault.TheVariants.{OutputLimit}
-use Rattle.split_merge.proofs.Bytes.{accepted_as, answered, found_message, limited_at, message_with, only_of, records_short, records_within}
+use Rattle.split_merge.proofs.Bytes.{accepted_as, answered, found_message, limited_at, message_with, only_of}
 use Rattle.split_merge.proofs.canonical.canon.Goals as goal
 
-pub canonical_bytes-requires-clause-inside : goal.canonical_bytes-requires-clause-inside
-canonical_bytes-requires-clause-inside g c =
-    let found = c.message-found.result.now in
-    subst (λ rs. Each (λ x. IsWithin (old_entries found.dictionary) resource_profiles (tree resource_profiles x)) (map resource_profiles_view rs)) (sym c.as_slice.ensures)
-    (records_within (message_view found) (value_of c.args.message.now) c.message-found.ensures.value c.message-found.ensures.records)
+pub canonical_bytes-requires-clause-zeros : goal.canonical_bytes-requires-clause-zeros
+canonical_bytes-requires-clause-zeros g c =
+    subst (λ (m : Message). HasZeros (tables_in m.1.0))
+    (sym (found_message c.as_slice.result.now c.message-found.result.now (value_of c.args.message.now) c.as_slice.ensures c.message-found.ensures.value)) c.message-found.ensures.zeros
+
+pub canonical_bytes-requires-clause-entries : goal.canonical_bytes-requires-clause-entries
+canonical_bytes-requires-clause-entries g c =
+    subst (λ (m : Message). (T : Table) → Each (IsWithin (tables_in m.1.0) (entry T)) (tables_in m.1.0 T))
+    (sym (found_message c.as_slice.result.now c.message-found.result.now (value_of c.args.message.now) c.as_slice.ensures c.message-found.ensures.value)) c.message-found.ensures.entries
+
+pub canonical_bytes-requires-clause-records : goal.canonical_bytes-requires-clause-records
+canonical_bytes-requires-clause-records g c =
+    subst (λ (m : Message). Each (IsWithin (tables_in m.1.0) resource_profiles) (map (tree resource_profiles) m.0))
+    (sym (found_message c.as_slice.result.now c.message-found.result.now (value_of c.args.message.now) c.as_slice.ensures c.message-found.ensures.value)) c.message-found.ensures.records
+
+pub canonical_bytes-requires-clause-fits : goal.canonical_bytes-requires-clause-fits
+canonical_bytes-requires-clause-fits g c =
+    subst (λ (m : Message). Fits envelope m)
+    (sym (found_message c.as_slice.result.now c.message-found.result.now (value_of c.args.message.now) c.as_slice.ensures c.message-found.ensures.value)) c.message-found.ensures.fits
 
 pub canonical_bytes-requires-clause-short : goal.canonical_bytes-requires-clause-short
 canonical_bytes-requires-clause-short g c =
-    let found = c.message-found.result.now in
-    subst (λ rs. Each (λ x. length (spell resource_profiles x) < 2 ^ 62) (map resource_profiles_view rs)) (sym c.as_slice.ensures)
-    (subst (λ (m : Message). Each (λ x. length (spell resource_profiles x) < 2 ^ 62) m.0) (sym c.message-found.ensures.value)
-    (records_short (value_of c.args.message.now) c.message-found.ensures.short))
+    subst (λ (m : Message). length (spell envelope m) < 2 ^ 60)
+    (sym (found_message c.as_slice.result.now c.message-found.result.now (value_of c.args.message.now) c.as_slice.ensures c.message-found.ensures.value)) c.message-found.ensures.short
 
 pub returns-then-size-gt-MESSAGE_LIMIT-clause-refused : goal.returns-then-size-gt-MESSAGE_LIMIT-clause-refused
 returns-then-size-gt-MESSAGE_LIMIT-clause-refused g c =

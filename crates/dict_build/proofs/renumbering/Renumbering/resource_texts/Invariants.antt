@@ -7,6 +7,6 @@ use Rattle.dict_build.proofs.renumbering.Renumbering.resource_texts.Given as goa
 -- the records so far are spelled
 abbrev pub invariant-loop-resource : goal.invariant-loop-resource
 invariant-loop-resource g l = record {
-  ready : IsReady l.old l.self.strings l.self.met.items;
-  texts : StepTexts resource_profiles 1 l.old l.fn.self.strings l.self.strings (map resource_profiles_view (take l.resource-index l.records)) l.texts;
+  ready : IsReady l.old l.self.tables l.self.met;
+  texts : StepTexts resource_profiles 1 l.old l.fn.self.tables l.self.tables (map resource_profiles_view (take l.resource-index l.records)) l.texts;
 }

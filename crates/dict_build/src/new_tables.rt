@@ -1,0 +1,139 @@
+//! The tables of a new dictionary.
+ghost use Rattle.std.specs.Prelude.{◌≡◌, ◌<◌, ◌^◌, [], ◌∷◌, length, false, IfOk, OnOk, Some, slice_get};
+ghost use Rattle.schema.specs.Shape.{Table as OfSchema};
+ghost use Rattle.meaning.specs.Tables.{same_table};
+ghost use Rattle.tables.specs.Keys.{Interned};
+ghost use Rattle.dict_build.specs.Renumbered.{at, table_of};
+
+use dict_rec::TableKind;
+use outside::Seeds;
+use pb_wire::{Blob, NoMemory};
+use std::alloc::Global;
+use std::hash::BuildHasher;
+use std::marker::Model;
+use std::sync::ledger::{Blank, Ledger};
+use tables::{EntryKey, Interner, Steps, Table};
+
+// The greatest number of entries of a table, whose indexes have 31 bits.
+const MOST_ENTRIES: u32 = 0x7FFF_FFFF;
+
+/// The keys of distinct entries by table, each table in the order in which its entries came.
+#[derive(Drop)]
+pub(crate) struct NewTables<S: BuildHasher, L: Ledger> {
+    mappings: Table<EntryKey, S>,
+    locations: Table<EntryKey, S>,
+    functions: Table<EntryKey, S>,
+    links: Table<EntryKey, S>,
+    strings: Table<EntryKey, S>,
+    attributes: Table<EntryKey, S>,
+    stacks: Table<EntryKey, S>,
+    steps: Steps<L>,
+}
+
+impl<S: BuildHasher, L: Ledger> Model for NewTables<S, L> {
+    ghost use Rattle.dict_build.specs.Renumbered.{Keys};
+
+    ghost Value = { Keys };
+
+    ghost view = { λ t. record { mappings = t.mappings; locations = t.locations; functions = t.functions; links = t.links; strings = t.strings; attributes = t.attributes; stacks = t.stacks } };
+}
+
+// A table of its zero entry alone, which has no bytes.
+fn zero_table<M: Seeds, L: Ledger>(
+    alloc: Global,
+    seeds: &mut M,
+    steps: &mut Steps<L>,
+) -> Result<Table<EntryKey, M::H>, NoMemory>
+    ensures { IfOk result (λ keys. keys ≡ [] ∷ []) }
+{
+    let mut keys = Table::begin(alloc, seeds.hasher()?)?;
+    keys.intern(EntryKey::from_blob(Blob::begin(alloc)), steps)?;
+    Ok(keys)
+}
+
+/// Tables of their zero entries alone.
+pub(crate) fn zero_tables<M: Seeds, L: Ledger>(
+    alloc: Global,
+    seeds: &mut M,
+    blank: Blank,
+) -> Result<NewTables<M::H, L>, NoMemory>
+    requires name { blank.name ≡ L.name }
+    requires parts { blank.parts ≡ L.parts }
+    requires some { 0 < blank.parts }
+    ensures { IfOk result (λ t. (T : OfSchema) → at t T ≡ [] ∷ []) }
+{
+    let mut steps = Steps::begin(blank);
+    let mappings = zero_table(alloc, seeds, &mut steps)?;
+    let locations = zero_table(alloc, seeds, &mut steps)?;
+    let functions = zero_table(alloc, seeds, &mut steps)?;
+    let links = zero_table(alloc, seeds, &mut steps)?;
+    let strings = zero_table(alloc, seeds, &mut steps)?;
+    let attributes = zero_table(alloc, seeds, &mut steps)?;
+    let stacks = zero_table(alloc, seeds, &mut steps)?;
+    Ok(NewTables {
+        mappings,
+        locations,
+        functions,
+        links,
+        strings,
+        attributes,
+        stacks,
+        steps,
+    })
+}
+
+impl<S: BuildHasher + Drop, L: Ledger> NewTables<S, L> {
+    // The table of a kind.
+    fn table(&self, kind: TableKind) -> &Table<EntryKey, S>
+        ensures { result.now ≡ at self.now (table_of kind) }
+    {
+        match kind {
+            TableKind::Mapping => &self.mappings,
+            TableKind::Location => &self.locations,
+            TableKind::Function => &self.functions,
+            TableKind::Link => &self.links,
+            TableKind::String => &self.strings,
+            TableKind::Attribute => &self.attributes,
+            TableKind::Stack => &self.stacks,
+        }
+    }
+
+    /// The number of entries of a table.
+    pub fn len(&self, kind: TableKind) -> u32
+        ensures { result ≡ length (at self.now (table_of kind)) }
+    {
+        self.table(kind).len()
+    }
+
+    /// The key of the entry at a place.
+    pub fn key(&self, kind: TableKind, place: u32) -> &[u8]
+        requires { place < length (at self.now (table_of kind)) }
+        ensures { slice_get (at self.now (table_of kind)) place ≡ Some result.now }
+    {
+        match self.table(kind).get(place) {
+            Some(key) => key.as_slice(),
+            None => &[],
+        }
+    }
+
+    /// The place of a key in its table, where it goes to the end if it is new. A table that is full answers want of memory.
+    pub fn intern(&mut self, kind: TableKind, key: EntryKey) -> Result<u32, NoMemory>
+        ensures interned { IfOk result (Interned (at self.old (table_of kind)) key (at self.new (table_of kind))) }
+        ensures others { OnOk result ((T : OfSchema) → same_table T (table_of kind) ≡ false → at self.new T ≡ at self.old T) }
+        ensures few { OnOk result (length (at self.new (table_of kind)) < 2 ^ 31) }
+    {
+        if self.len(kind) >= MOST_ENTRIES {
+            return Err(NoMemory);
+        }
+        let steps = &mut self.steps;
+        match kind {
+            TableKind::Mapping => self.mappings.intern(key, steps),
+            TableKind::Location => self.locations.intern(key, steps),
+            TableKind::Function => self.functions.intern(key, steps),
+            TableKind::Link => self.links.intern(key, steps),
+            TableKind::String => self.strings.intern(key, steps),
+            TableKind::Attribute => self.attributes.intern(key, steps),
+            TableKind::Stack => self.stacks.intern(key, steps),
+        }
+    }
+}
