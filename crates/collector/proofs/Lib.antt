@@ -1,2 +1,4 @@
 pub mod Writing
 pub mod Rebuilding
+pub mod Each
+pub mod CheckedLines

@@ -1,13 +1,14 @@
 -- Files written in order, and what a run leaves of its output.
-use Rattle.std.proofs.Common.{◌≡◌, ◌≤◌, ℕ, zero, suc, List, [], ◌∷◌, ◌++◌, ◌+◌, ◌<◌, inl, inr, length, take, drop, refl, sym, ap, ◌∙◌, get_or, Option, subst, add-one, arith}
+use Rattle.std.proofs.Common.{◌≡◌, ◌≤◌, ℕ, zero, suc, List, [], ◌∷◌, ◌++◌, ◌+◌, ◌<◌, inl, inr, length, take, drop, refl, sym, ap, ◌∙◌, get_or, Option, Some, None, Result, Ok, Err, IfSome, subst, add-one, arith}
 use Rattle.std.proofs.Math.Seq.{take-suc}
 use Rattle.std.proofs.lemmas.List.{drop_more}
 use Rattle.outside.specs.Causes.{Rose}
 use Rattle.outside.specs.FileMap.{FileMap, written, SameBut}
+use Rattle.collector.specs.declared.output.Output.{Output}
 use Rattle.collector.specs.declared.stop.Stop.{Stop}
 use Rattle.collector.specs.declared.stop.Stop.TheVariants.{Refused, Read, Write, NoMemory}
 use Rattle.collector.specs.Causes.{IsOneOf, IsWriteOf}
-use Rattle.collector.specs.Delivery.{put_files, names_of, FirstUntold, FailedAtFile, FileLeft, FilesLeft}
+use Rattle.collector.specs.Delivery.{put_files, names_of, FirstUntold, FailedAtFile, FileLeft, FilesLeft, Seen, Untouched, PartDelivered}
 
 abbrev Files : Type 0
 Files = List (List ℕ × List ℕ)
@@ -49,6 +50,15 @@ left_at fs i f o now new n n' n'' (Read name) lt is so_far later left = left
 left_at fs i f o now new n n' n'' (Write name) lt is so_far later left = failed_at fs i f o now new n n' n'' lt is so_far later left
 left_at fs i f o now new n n' n'' NoMemory lt is so_far later (inl same) = inl (record { done = i; is = same ∙ so_far })
 left_at fs i f o now new n n' n'' NoMemory lt is so_far later (inr failed) = inr (failed_at fs i f o now new n n' n'' lt is so_far later failed)
+
+-- where nothing was written, what is written is none of the files
+unwritten_of : (want : Result Output Stop) (before now : Seen) → Untouched before now → PartDelivered want before now
+unwritten_of (Ok output) before now still = inl (inl (record { done = 0; is = still.told }), still.taken)
+unwritten_of (Err stop) before now still = still
+
+pub unwritten : (told : Option FileMap) (want : FileMap → Result Output Stop) (before now : Seen) → Untouched before now → IfSome told (λ m. PartDelivered (want m) before now)
+unwritten None want before now still = tt
+unwritten (Some m) want before now still = unwritten_of (want m) before now still
 
 -- ---- names
 

@@ -1,17 +1,19 @@
 -- The answer of the tool.
 use Rattle.std.specs.Prelude.{ℕ, List, [], Result, Ok, Err}
 use Rattle.outside.specs.FileMap.{FileMap}
-use Rattle.collector.specs.declared.words.ToolPlan.{ToolPlan}
-use Rattle.collector.specs.declared.words.ToolPlan.TheVariants.{Canon}
-use Rattle.collector.specs.declared.words.WordRefusal.{WordRefusal}
+use Rattle.commands.specs.declared.words.ToolPlan.{ToolPlan}
+use Rattle.commands.specs.declared.words.ToolPlan.TheVariants.{Check, Canon}
+use Rattle.commands.specs.declared.words.WordRefusal.{WordRefusal}
 use Rattle.collector.specs.declared.output.Output.{Output}
 use Rattle.collector.specs.declared.stop.Stop.{Stop}
-use Rattle.collector.specs.Plan.{planned}
+use Rattle.commands.specs.Plan.{planned}
 use Rattle.collector.specs.Lines.{status_of, line_of, stop_of_words}
 use Rattle.collector.specs.CanonAnswer.{canon_answer}
+use Rattle.collector.specs.CheckAnswer.{check_answer}
 
 -- what a plan comes to; one line a command
 abbrev pub performed : ToolPlan → FileMap → Result Output Stop
+performed (Check files) m = check_answer m files
 performed (Canon file target) m = canon_answer m file target
 
 -- what a plan, or the refusal of the words, comes to

@@ -2,11 +2,11 @@
 use Rattle.std.specs.Prelude.{◌≡◌, ◌⊎◌, ℕ, List, [], ◌∷◌, codes, Option, Result, Err, IsOk, IfOk}
 use Rattle.outside.specs.Causes.{Rose}
 use Rattle.outside.specs.Told.{appended}
-use Rattle.collector.specs.Plan.{inputs, targets}
+use Rattle.commands.specs.Plan.{inputs, targets}
 use Rattle.collector.specs.Lines.{read_text, write_text}
-use Rattle.collector.specs.declared.words.ToolPlan.{ToolPlan}
-use Rattle.collector.specs.declared.words.WordRefusal.{WordRefusal}
-use Rattle.collector.specs.declared.words.WordRefusal.TheVariants.{Fault}
+use Rattle.commands.specs.declared.words.ToolPlan.{ToolPlan}
+use Rattle.commands.specs.declared.words.WordRefusal.{WordRefusal}
+use Rattle.commands.specs.declared.words.WordRefusal.TheVariants.{Fault}
 use Rattle.collector.specs.declared.stop.ToolRefusal.{ToolRefusal}
 use Rattle.collector.specs.declared.stop.ToolRefusal.TheVariants.{Words, File, Limit}
 use Rattle.collector.specs.declared.stop.Stop.{Stop}

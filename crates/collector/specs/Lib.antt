@@ -1,8 +1,8 @@
-pub mod Plan
 pub mod Lines
 pub mod Outputs
 pub mod Messages
 pub mod CanonAnswer
+pub mod CheckAnswer
 pub mod Answer
 pub mod Rebuilt
 pub mod Causes

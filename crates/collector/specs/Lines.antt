@@ -2,11 +2,11 @@
 use Rattle.std.specs.Prelude.{ℕ, List, [], ◌∷◌, ◌++◌, codes, Result, Ok, Err, nat_eq, IsTrue}
 use Rattle.std.specs.List.{list_any}
 use Rattle.std.specs.Fmt.{decimal}
-use Rattle.collector.specs.declared.words.ToolPlan.{ToolPlan}
-use Rattle.collector.specs.declared.words.WordReason.{WordReason}
-use Rattle.collector.specs.declared.words.WordReason.TheVariants.{NoCommand, UnknownCommand, MissingWord, ExtraWord}
-use Rattle.collector.specs.declared.words.WordRefusal.{WordRefusal}
-use Rattle.collector.specs.declared.words.WordRefusal.TheVariants as word
+use Rattle.commands.specs.declared.words.ToolPlan.{ToolPlan}
+use Rattle.commands.specs.declared.words.WordReason.{WordReason}
+use Rattle.commands.specs.declared.words.WordReason.TheVariants.{NoCommand, UnknownCommand, MissingWord, ExtraWord}
+use Rattle.commands.specs.declared.words.WordRefusal.{WordRefusal}
+use Rattle.commands.specs.declared.words.WordRefusal.TheVariants as word
 use Rattle.collector.specs.declared.stop.ToolRefusal.{ToolRefusal}
 use Rattle.collector.specs.declared.stop.ToolRefusal.TheVariants.{Words, File, Limit}
 use Rattle.collector.specs.declared.stop.Stop.{Stop}
@@ -26,6 +26,10 @@ reason_name ExtraWord = codes "ExtraWord"
 -- a file was written
 abbrev pub wrote_text : List ℕ → ℕ → List ℕ
 wrote_text target size = codes "wrote " ++ (target ++ (codes ", " ++ (decimal size ++ (codes " bytes" ++ end_of_line))))
+
+-- a file is a message, with so many profiles and samples
+abbrev pub ok_text : List ℕ → ℕ → ℕ → List ℕ
+ok_text name profiles samples = name ++ (codes ": ok, " ++ (decimal profiles ++ (codes " profiles, " ++ (decimal samples ++ (codes " samples" ++ end_of_line)))))
 
 -- the word at this place is refused
 abbrev pub words_text : ℕ → WordReason → List ℕ

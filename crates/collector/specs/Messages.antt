@@ -1,5 +1,5 @@
 -- Files by their names, and the messages in them.
-use Rattle.std.specs.Prelude.{ℕ, List, Result, Ok, Err, codes}
+use Rattle.std.specs.Prelude.{ℕ, List, [], ◌∷◌, Result, Ok, Err, codes}
 use Rattle.outside.specs.FileMap.{FileMap, got_of}
 use Rattle.outside.specs.declared.files.Got.{Got}
 use Rattle.outside.specs.declared.files.Got.TheVariants.{Whole, Long, Missing}
@@ -15,6 +15,11 @@ use Rattle.collector.specs.declared.stop.Stop.TheVariants.{Refused, NoMemory}
 abbrev pub after : {A B : Type 0} → Result A Stop → (A → Result B Stop) → Result B Stop
 after (Ok a) next = next a
 after (Err stop) next = Err stop
+
+-- what each of these names comes to, in order, up to the first stop
+abbrev pub each : {A : Type 0} → (List ℕ → Result A Stop) → List (List ℕ) → Result (List A) Stop
+each f [] = Ok []
+each f (name ∷ names) = after (f name) (λ a. after (each f names) (λ rest. Ok (a ∷ rest)))
 
 -- the stop at the refusal of a named file
 abbrev pub stop_of_refusal : List ℕ → Refusal → Stop

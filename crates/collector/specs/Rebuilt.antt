@@ -5,8 +5,8 @@ use Rattle.otlp_msg.specs.Message.{Message, message_of}
 use Rattle.split_merge.specs.Canonical.{meaning, IsAcceptedAs, IsOnlyOf}
 use Rattle.collector.specs.Messages.{bytes_at}
 use Rattle.collector.specs.declared.output.Output.{Output}
-use Rattle.collector.specs.declared.words.ToolPlan.{ToolPlan}
-use Rattle.collector.specs.declared.words.ToolPlan.TheVariants.{Canon}
+use Rattle.commands.specs.declared.words.ToolPlan.{ToolPlan}
+use Rattle.commands.specs.declared.words.ToolPlan.TheVariants.{Check, Canon}
 
 -- one file is written; it is accepted with the meaning of this message, and is that of no other meaning
 pub record IsRebuilt (message : Message) (target : List ℕ) (output : Output) : Type 0 where
@@ -29,4 +29,5 @@ pub record IsRebuiltAt (m : FileMap) (file target : List ℕ) (output : Output) 
 
 -- what the output of a plan keeps; one line a command
 abbrev pub KeepsMeaning : ToolPlan → FileMap → Output → Type 0
+KeepsMeaning (Check files) m output = output.files ≡ []
 KeepsMeaning (Canon file target) m output = IsRebuiltAt m file target output

@@ -1,7 +1,8 @@
-//! The tool: what the words ask for, its answer, and the top call `run_tool`.
+//! The tool: what each command comes to, the answer to the words, and the top call `run_tool`.
 #![tactic(auto)]
 
 mod canon_command;
+mod check_command;
 mod deliver;
 mod lines;
 mod output;
@@ -9,7 +10,6 @@ mod reading;
 mod report;
 mod run;
 mod stop;
-mod words;
 mod work;
 
 pub use deliver::write_output;
@@ -17,9 +17,14 @@ pub use output::{Output, Writes};
 pub use report::tell;
 pub use run::run_tool;
 pub use stop::{Stop, ToolRefusal};
-pub use words::{ToolPlan, WordReason, WordRefusal, plan};
 pub use work::perform;
 
+#[cfg(test)]
+mod canon_order_tests;
+#[cfg(test)]
+mod canon_sample_tests;
+#[cfg(test)]
+mod canon_table_tests;
 #[cfg(test)]
 mod canon_tests;
 #[cfg(test)]

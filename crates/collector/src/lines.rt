@@ -1,8 +1,8 @@
 //! The lines that the tool prints. Each ends with a line feed.
 ghost use Rattle.std.specs.Prelude.{◌≡◌, IfOk};
-ghost use Rattle.collector.specs.Lines.{words_text, file_text, limit_text, read_text, write_text, no_memory_text, wrote_text, reason_name};
+ghost use Rattle.collector.specs.Lines.{words_text, file_text, limit_text, read_text, write_text, no_memory_text, wrote_text, ok_text, reason_name};
 
-use crate::WordReason;
+use commands::WordReason;
 use pb_wire::{NoMemory, Text};
 use std::alloc::Global;
 
@@ -11,6 +11,14 @@ pub fn wrote_line(alloc: Global, target: &str, size: usize) -> Result<Text, NoMe
     ensures { IfOk result (λ line. line ≡ wrote_text target.now size) }
 {
     let line = format!(in alloc; "wrote {target}, {size} bytes\n")?;
+    Ok(Text::from_string(line))
+}
+
+/// On the standard output: a file is a message, with so many profiles and samples.
+pub fn ok_line(alloc: Global, name: &str, profiles: u64, samples: u64) -> Result<Text, NoMemory>
+    ensures { IfOk result (λ line. line ≡ ok_text name.now profiles samples) }
+{
+    let line = format!(in alloc; "{name}: ok, {profiles} profiles, {samples} samples\n")?;
     Ok(Text::from_string(line))
 }
 

@@ -2,14 +2,15 @@
 ghost use Rattle.std.specs.Prelude.{◌≡◌, ◌≢◌, ◌<◌, ◌⊎◌, Some, IsOk, IsErr, OnOk, IfOk, IfErr, IfSome, MatchResult};
 ghost use Rattle.outside.specs.Causes.{Rose};
 ghost use Rattle.outside.specs.Told.{appended};
-ghost use Rattle.collector.specs.Plan.{planned, texts_of};
+ghost use Rattle.commands.specs.Plan.{planned, texts_of};
 ghost use Rattle.collector.specs.Lines.{IsStatus, words_line};
 ghost use Rattle.collector.specs.Answer.{outcome, performed, answer};
 ghost use Rattle.collector.specs.Rebuilt.{KeepsMeaning};
 ghost use Rattle.collector.specs.Causes.{IsStop, IsNoFault, WordsCause, FaultCause, TookRead, TookWrite};
 ghost use Rattle.collector.specs.Delivery.{seen, put_files, Delivered, FailedDelivery, PartDelivered, LeftAtWrite, Unchanged, Untouched, IsAnswered};
 
-use crate::{Stop, perform, plan, tell, write_output};
+use crate::{Stop, perform, tell, write_output};
+use commands::plan;
 use outside::{Files, Seeds, Sink};
 use std::alloc::Global;
 

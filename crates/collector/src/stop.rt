@@ -3,7 +3,7 @@ ghost use Rattle.std.specs.Prelude.{◌≡◌, ◌<◌, IfOk};
 ghost use Rattle.collector.specs.Lines.{status_of, refusal_status, line_of, refusal_line, IsStatus};
 
 use crate::lines::{file_line, limit_line, no_memory_line, read_line, words_line, write_line};
-use crate::{WordReason, WordRefusal};
+use commands::{WordReason, WordRefusal};
 use pb_wire::{NoMemory, Text};
 use std::alloc::{AllocError, Global};
 

@@ -1,13 +1,15 @@
 //! What a plan comes to: all is read and computed here, and nothing is written.
 ghost use Rattle.std.specs.Prelude.{◌≡◌, ◌≤◌, Ok, IfOk, IfErr, IfSome};
 ghost use Rattle.collector.specs.Answer.{performed};
-ghost use Rattle.collector.specs.Plan.{inputs, targets};
+ghost use Rattle.commands.specs.Plan.{inputs, targets};
 ghost use Rattle.collector.specs.Delivery.{names_of};
 ghost use Rattle.collector.specs.Causes.{IsStop, ReadCause, IsNoFault};
 ghost use Rattle.collector.specs.Rebuilt.{KeepsMeaning};
 
 use crate::canon_command::perform_canon;
-use crate::{Output, Stop, ToolPlan};
+use crate::check_command::perform_check;
+use crate::{Output, Stop};
+use commands::ToolPlan;
 use outside::{Files, Seeds};
 use std::alloc::Global;
 
@@ -28,6 +30,7 @@ pub fn perform<F: Files, M: Seeds>(
     ensures sound { F.sound files.old → F.sound files.new × IfErr result IsNoFault }
 {
     match plan {
+        ToolPlan::Check { files: names } => perform_check(alloc, names, files),
         ToolPlan::Canon { file, target } => perform_canon(alloc, file, target, files, seeds),
     }
 }

@@ -1,13 +1,16 @@
 //! The words of the command line.
-ghost use Rattle.std.specs.Prelude.{◌≡◌, Ok, IfOk, IfErr};
-ghost use Rattle.collector.specs.Plan.{planned, two_words, texts_of, IsWordRefusal};
+ghost use Rattle.std.specs.Prelude.{◌≡◌, ◌++◌, ◌∷◌, [], Ok, IfOk, IfErr, OnOk};
+ghost use Rattle.commands.specs.Plan.{planned, some_words, two_words, texts_of, IsWordRefusal};
 
+use crate::Texts;
 use pb_wire::{NoMemory, Text};
 use std::alloc::Global;
 
 /// What the words ask for.
 #[derive(Drop)]
 pub enum ToolPlan {
+    /// Says how much there is in the messages in `files`, of which there is at least one.
+    Check { files: Texts },
     /// Writes the canonical bytes of the message in `file` to `target`.
     Canon { file: Text, target: Text },
 }
@@ -35,7 +38,7 @@ pub enum WordRefusal {
 
 impl From<NoMemory> for WordRefusal {
     ghost use Rattle.std.specs.Prelude.{◌≡◌};
-    ghost use Rattle.collector.specs.declared.words.WordRefusal.TheVariants as refusal;
+    ghost use Rattle.commands.specs.declared.words.WordRefusal.TheVariants as refusal;
 
     ghost from_gives = { λ _ e. e ≡ refusal.NoMemory };
 
@@ -52,6 +55,9 @@ pub fn plan(alloc: Global, words: &[String]) -> Result<ToolPlan, WordRefusal>
     let [command, rest @ ..] = words else {
         return fault(0, WordReason::NoCommand);
     };
+    if command.as_str() == "check" {
+        return check_plan(alloc, rest);
+    }
     if command.as_str() == "canon" {
         return canon_plan(alloc, rest);
     }
@@ -62,6 +68,39 @@ fn fault(place: u32, reason: WordReason) -> Result<ToolPlan, WordRefusal>
     ensures { result ≡ Err (WordRefusal.Fault place reason) }
 {
     Err(WordRefusal::Fault { place, reason })
+}
+
+// `check IN..`, without its command.
+fn check_plan(alloc: Global, rest: &[String]) -> Result<ToolPlan, WordRefusal>
+    ensures ok { IfOk result (λ plan. some_words ToolPlan.Check (texts_of rest.now) ≡ Ok plan) }
+    ensures refused { IfErr result (IsWordRefusal (some_words ToolPlan.Check (texts_of rest.now))) }
+{
+    if rest.is_empty() {
+        return fault(1, WordReason::MissingWord);
+    }
+    Ok(ToolPlan::Check {
+        files: copies(alloc, rest)?,
+    })
+}
+
+// The words as texts of their own.
+fn copies(alloc: Global, words: &[String]) -> Result<Texts, NoMemory>
+    ensures { IfOk result (λ texts. texts ≡ texts_of words.now) }
+{
+    let mut texts = Texts::begin(alloc);
+    for word in words {
+        if let Err(wanting) = add_copy(alloc, word.as_str(), &mut texts) {
+            return Err(wanting);
+        }
+    }
+    Ok(texts)
+}
+
+// One word more, as a text.
+fn add_copy(alloc: Global, word: &str, texts: &mut Texts) -> Result<(), NoMemory>
+    ensures { OnOk result (texts.new ≡ texts.old ++ word.now ∷ []) }
+{
+    texts.add(Text::copy_of(alloc, word)?)
 }
 
 // `canon IN OUT`, without its command.

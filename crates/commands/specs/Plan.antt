@@ -2,11 +2,11 @@
 use Rattle.std.specs.Prelude.{◌≡◌, ℕ, Bool, List, [], ◌∷◌, map, if◌then◌else◌, nat_eq, Result, Ok, Err, codes, string_bytes, String}
 use Rattle.std.specs.Cmp.Lexicographic.{pointwise}
 use Rattle.std.specs.declared.alloc.Global.{Global}
-use Rattle.collector.specs.declared.words.ToolPlan.{ToolPlan}
-use Rattle.collector.specs.declared.words.ToolPlan.TheVariants.{Canon}
-use Rattle.collector.specs.declared.words.WordReason.TheVariants.{NoCommand, UnknownCommand, MissingWord, ExtraWord}
-use Rattle.collector.specs.declared.words.WordRefusal.{WordRefusal}
-use Rattle.collector.specs.declared.words.WordRefusal.TheVariants.{Fault, NoMemory}
+use Rattle.commands.specs.declared.words.ToolPlan.{ToolPlan}
+use Rattle.commands.specs.declared.words.ToolPlan.TheVariants.{Check, Canon}
+use Rattle.commands.specs.declared.words.WordReason.TheVariants.{NoCommand, UnknownCommand, MissingWord, ExtraWord}
+use Rattle.commands.specs.declared.words.WordRefusal.{WordRefusal}
+use Rattle.commands.specs.declared.words.WordRefusal.TheVariants.{Fault, NoMemory}
 
 -- the words as texts
 abbrev pub texts_of : List (String Global) → List (List ℕ)
@@ -15,6 +15,11 @@ texts_of words = map string_bytes words
 -- whether a word is this name
 abbrev pub is_word : List ℕ → List ℕ → Bool
 is_word word name = pointwise nat_eq word name
+
+-- a command that takes any number of words, but one at least
+abbrev pub some_words : (List (List ℕ) → ToolPlan) → List (List ℕ) → Result ToolPlan WordRefusal
+some_words make [] = Err (Fault 1 MissingWord)
+some_words make (a ∷ more) = Ok (make (a ∷ more))
 
 -- a command that takes exactly two words
 abbrev pub two_words : (List ℕ → List ℕ → ToolPlan) → List (List ℕ) → Result ToolPlan WordRefusal
@@ -27,14 +32,17 @@ two_words make (a ∷ b ∷ c ∷ more) = Err (Fault 3 ExtraWord)
 abbrev pub planned : List (List ℕ) → Result ToolPlan WordRefusal
 planned [] = Err (Fault 0 NoCommand)
 planned (command ∷ rest) =
-    if is_word command (codes "canon") then two_words Canon rest
+    if is_word command (codes "check") then some_words Check rest
+    else if is_word command (codes "canon") then two_words Canon rest
     else Err (Fault 0 UnknownCommand)
 
 -- the files that a plan reads, and those that it writes
 abbrev pub inputs : ToolPlan → List (List ℕ)
+inputs (Check files) = files
 inputs (Canon file target) = file ∷ []
 
 abbrev pub targets : ToolPlan → List (List ℕ)
+targets (Check files) = []
 targets (Canon file target) = target ∷ []
 
 -- the refusal is the one that is wanted, or memory was wanting

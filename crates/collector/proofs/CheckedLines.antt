@@ -1,0 +1,55 @@
+-- The lines of files, one after the other.
+use Rattle.std.proofs.Common.{◌≡◌, ℕ, List, [], ◌∷◌, ◌++◌, ◌+◌, ◌<◌, length, take, refl, sym, ap, ◌∙◌, get_or, Option, Some, None, Ok, Err, IfSome, subst, append-nil, append_assoc}
+use Rattle.std.specs.List.{concat}
+use Rattle.outside.specs.FileMap.{FileMap}
+use Rattle.collector.specs.declared.stop.Stop.{Stop}
+use Rattle.collector.specs.declared.stop.Stop.TheVariants.{Refused, Read, Write, NoMemory}
+use Rattle.collector.specs.Causes.{IsStop}
+use Rattle.collector.specs.CheckAnswer.{line_at, lines_at}
+use Rattle.collector.specs.Messages.{each}
+use Rattle.collector.proofs.Each.{Names, WentOn, went_on, each_more, each_stopped}
+
+-- one text more at the end
+concat-more : (ls : List (List ℕ)) (l : List ℕ) → concat (ls ++ l ∷ []) ≡ concat ls ++ l
+concat-more [] l = append-nil l
+concat-more (x ∷ xs) l = ap (λ (t : List ℕ). x ++ t) (concat-more xs l) ∙ sym (append_assoc x (concat xs) l)
+
+-- the line of the name at i stands behind those before it
+lines_more : (m : FileMap) (names : Names) (i : ℕ) (name lines line : List ℕ) → i < length names → name ≡ get_or names i name
+    → lines_at m (take i names) ≡ Ok lines → line_at m name ≡ Ok line → lines_at m (take (i + 1) names) ≡ Ok (lines ++ line)
+lines_more m names i name lines line lt is so_far one =
+    let before : WentOn (each (line_at m) (take i names)) (λ ls. Ok (concat ls)) lines = went_on _ _ _ so_far in
+    let more : each (line_at m) (take (i + 1) names) ≡ Ok (before.value ++ line ∷ []) = each_more (line_at m) names i name before.value line lt is before.is one in
+    let same : concat before.value ≡ lines = let e : Ok (concat before.value) ≡ Ok lines = before.later in cc in
+    rw more (ap (λ (t : List ℕ). Ok t) (concat-more before.value line ∙ ap (λ (t : List ℕ). t ++ line) same))
+
+-- the first refusal is that of the name at i
+lines_refused : (m : FileMap) (names : Names) (i : ℕ) (name lines : List ℕ) (stop : Stop) → i < length names → name ≡ get_or names i name
+    → lines_at m (take i names) ≡ Ok lines → line_at m name ≡ Err stop → lines_at m names ≡ Err stop
+lines_refused m names i name lines stop lt is so_far one =
+    let before : WentOn (each (line_at m) (take i names)) (λ ls. Ok (concat ls)) lines = went_on _ _ _ so_far in
+    let ends : each (line_at m) names ≡ Err stop = each_stopped (line_at m) names i name before.value stop lt is before.is one in
+    rw ends refl
+
+lines_stopped : (m : FileMap) (names : Names) (i : ℕ) (name lines : List ℕ) (stop : Stop) → i < length names → name ≡ get_or names i name
+    → lines_at m (take i names) ≡ Ok lines → IsStop (line_at m name) stop → IsStop (lines_at m names) stop
+lines_stopped m names i name lines (Refused refusal) lt is so_far one = lines_refused m names i name lines (Refused refusal) lt is so_far one
+lines_stopped m names i name lines (Read read) lt is so_far one = tt
+lines_stopped m names i name lines (Write written) lt is so_far one = tt
+lines_stopped m names i name lines NoMemory lt is so_far one = tt
+
+-- ---- the same where a map is told, which the files before left as it was
+
+pub told_more : (told now : Option FileMap) (names : Names) (i : ℕ) (name lines line both : List ℕ) → i < length names → name ≡ get_or names i name → now ≡ told
+    → IfSome told (λ m. lines_at m (take i names) ≡ Ok lines) → IfSome now (λ m. line_at m name ≡ Ok line) → both ≡ lines ++ line
+    → IfSome told (λ m. lines_at m (take (i + 1) names) ≡ Ok both)
+told_more None now names i name lines line both lt is same so_far one joined = tt
+told_more (Some m) now names i name lines line both lt is same so_far one joined =
+    let line_is : line_at m name ≡ Ok line = subst (λ (o : Option FileMap). IfSome o (λ m. line_at m name ≡ Ok line)) same one in
+    lines_more m names i name lines line lt is so_far line_is ∙ ap (λ (t : List ℕ). Ok t) (sym joined)
+
+pub told_stopped : (told now : Option FileMap) (names : Names) (i : ℕ) (name lines : List ℕ) (stop : Stop) → i < length names → name ≡ get_or names i name → now ≡ told
+    → IfSome told (λ m. lines_at m (take i names) ≡ Ok lines) → IfSome now (λ m. IsStop (line_at m name) stop) → IfSome told (λ m. IsStop (lines_at m names) stop)
+told_stopped None now names i name lines stop lt is same so_far one = tt
+told_stopped (Some m) now names i name lines stop lt is same so_far one =
+    lines_stopped m names i name lines stop lt is so_far (subst (λ (o : Option FileMap). IfSome o (λ m. IsStop (line_at m name) stop)) same one)
