@@ -58,11 +58,15 @@ impl<T> Repeated<T> {
 }
 
 impl<T: Drop> Repeated<T> {
-    /// Puts an element at the end. After want of memory the list is as before and the element is dropped.
+    /// Puts an element at the end. After want of memory the list is as before and the element is dropped. The first one takes
+    /// room for itself alone, since most lists of a message have one element.
     pub fn add(&mut self, element: T) -> Result<(), NoMemory>
         ensures ok { OnOk result (self.new ≡ self.old ++ element ∷ []) }
         ensures err { OnErr result (self.new ≡ self.old) }
     {
+        if self.items.is_empty() {
+            self.items.reserve_exact(1)?;
+        }
         self.items.push(element)?;
         Ok(())
     }
