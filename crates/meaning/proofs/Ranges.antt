@@ -21,6 +21,7 @@ use Rattle.meaning.specs.Tree.{Tree, Integer, Nil, listed, elements, tree, value
 use Rattle.meaning.specs.Tables.{Tables, IsSound, entry, field_of, place}
 use Rattle.meaning.specs.Meaning.{at_each, zero_value, entry_at, resolve, AreParts, AreElements}
 use Rattle.meaning.specs.Canonical.{tables_of, renumber, entries, records, record_list}
+use Rattle.meaning.specs.Ranges.{AlsoRange, HasRange}
 use Rattle.meaning.specs.Message.{dictionary, message, tables_in, meaning_of, table_values, dictionary_value, tables_for, canonical_value, meaning_text, entry_text, table_text, dictionary_text, record_text}
 use Rattle.meaning.proofs.Trees.{value-tree}
 use Rattle.meaning.proofs.Places.{each_all}
@@ -53,19 +54,7 @@ in_range s x h = tt
 
 -- ---- meanings
 
--- the tree of a list of AnyValues holds such as can be written
-abbrev AlsoRange : Shape → Tree → Type 0
-AlsoRange (Any depth) t = AreElements (λ e. AnyInRange (any_levels depth) (any_of e)) t
-AlsoRange k t = Unit {0}
-
--- the leaves of a meaning are in their range
-abbrev HasRange : Shape → Tree → Type 0
-HasRange (Index T k) t = HasRange k t
-HasRange (One n k rest) t = AreParts (HasRange k) (HasRange rest) t
-HasRange (Many n k rest) t = AreParts (λ e. AreElements (HasRange k) e × AlsoRange k e) (HasRange rest) t
-HasRange s t = InRange s (value s t)
-
--- so is the empty list
+-- an empty list of AnyValues holds such
 nil_also : (k : Shape) → AlsoRange k Nil
 nil_also (Any depth) = refl
 nil_also k = tt
@@ -268,6 +257,10 @@ records_range k i x h = go x.0 h.0
     go [] g = tt
     go (r ∷ rs) g = (resolved_range (tables_in x.1.0) (dictionary_entries x.1.0 h.2.0) k i r g.0, go rs g.1)
 
+-- of one that can be written
+pub messages_range : (k : Shape) → IsSound k → (x : Value (message k)) → Fits (message k) x → Each (HasRange k) (meaning_of k x)
+messages_range k i x f = records_range k i x (in_range (message k) x f)
+
 -- the canonical message is in its range
 canonical_range : (k : Shape) → IsMessage k → IsSound k → (ms : List Tree) → Each (HasRange k) ms → ((T : Table) → length (tables_for k ms T) < 2 ^ 31)
     → InRange (message k) (canonical_value k ms)
@@ -287,13 +280,15 @@ canonical_range k e i ms h l =
     )
 
 -- so it can be written
+pub meanings_fit : (k : Shape) → IsMessage k → IsSound k → Lawful k → (ms : List Tree) → Each (HasRange k) ms → length (meaning_text k ms) < 2 ^ 31
+    → Fits (message k) (canonical_value k ms)
+meanings_fit k e i l ms h short =
+    fits_from (message k) tt (message_lawful k l) (canonical_value k ms) (canonical_range k e i ms h (λ T. let w = whole_most k e ms T in omega arith)) (omega arith)
+
+-- and so can that of what a message means
 pub canonical_fits : (k : Shape) → IsMessage k → IsSound k → Lawful k → (x : Value (message k)) → Fits (message k) x
     → length (meaning_text k (meaning_of k x)) < 2 ^ 31 → Fits (message k) (canonical_value k (meaning_of k x))
-canonical_fits k e i l x f short =
-    let ms : List Tree = meaning_of k x in
-    let r : InRange (message k) (canonical_value k ms) =
-    canonical_range k e i ms (records_range k i x (in_range (message k) x f)) (λ T. let w = whole_most k e ms T in omega arith) in
-    fits_from (message k) tt (message_lawful k l) (canonical_value k ms) r (omega arith)
+canonical_fits k e i l x f short = meanings_fit k e i l (meaning_of k x) (messages_range k i x f) short
 
 -- its bytes are read as a message that means the same
 pub rebuilt_whole : (k : Shape) → IsMessage k → IsSound k → Lawful k → (x : Value (message k)) → Fits (message k) x

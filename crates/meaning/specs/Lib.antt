@@ -5,3 +5,4 @@ pub mod Canonical
 pub mod Steps
 pub mod Message
 pub mod Samples
+pub mod Ranges

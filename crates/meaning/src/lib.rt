@@ -15,6 +15,7 @@ ghost use Rattle.meaning.specs.Tree.{Tree, Integer, tree, value, IsOf};
 ghost use Rattle.meaning.specs.Tables.{Tables, IsSound, entry, has, Distinct};
 ghost use Rattle.meaning.specs.Meaning.{resolve, uses, blank, zero_value, entry_at, HasZeros, filled, IsMeaning};
 ghost use Rattle.meaning.specs.Message.{dictionary, dictionary_value, tables_in, message, meaning_of, tables_for, canonical_value, meaning_text, entry_text, record_text, dictionary_text};
+ghost use Rattle.meaning.specs.Ranges.{HasRange};
 ghost use Rattle.meaning.specs.Canonical.{zeros, tables_of, visited_tables, renumber, entries, values, records, record_list, IsWithin, Covers};
 ghost use Rattle.meaning.specs.Steps.{Stands, WrittenEach, Drafted};
 
@@ -134,9 +135,13 @@ pub fn canonical_message_is_in_order()
         → let x = canonical_value k ms in Each (IsWithin (tables_in x.1.0) k) (map (tree k) x.0) }
 {}
 
-/// The canonical message of what a message means can be written, if the message can and the canonical bytes are not too many.
+/// The canonical message of meanings can be written, if their leaves are in their ranges and the canonical bytes are not too
+/// many (`meanings`). So it is with what a message means that can be written (`ranges`, `messages`).
 pub fn canonical_messages_fit()
-    ensures { (k : Shape) → IsMessage k → IsSound k → Lawful k → (x : Value (message k)) → Fits (message k) x
+    ensures meanings { (k : Shape) → IsMessage k → IsSound k → Lawful k → (ms : List Tree) → Each (HasRange k) ms
+        → length (meaning_text k ms) < 2 ^ 31 → Fits (message k) (canonical_value k ms) }
+    ensures ranges { (k : Shape) → IsSound k → (x : Value (message k)) → Fits (message k) x → Each (HasRange k) (meaning_of k x) }
+    ensures messages { (k : Shape) → IsMessage k → IsSound k → Lawful k → (x : Value (message k)) → Fits (message k) x
         → length (meaning_text k (meaning_of k x)) < 2 ^ 31 → Fits (message k) (canonical_value k (meaning_of k x)) }
 {}
 
