@@ -1,14 +1,12 @@
 -- The beginning: zero entries alone, and no entry that was met.
-use Rattle.std.proofs.Common.{◌≡◌, ℕ, List, [], ◌∷◌, length, map, replicate, Option, None, sym, ap, ◌∙◌, arith}
+use Rattle.std.proofs.Common.{◌≡◌, ℕ, List, [], ◌∷◌, length, map, replicate, Option, None, sym, ap, ◌∙◌}
 use Rattle.std.proofs.lemmas.List.{length-map}
 use Rattle.schema.specs.Shape.{Table}
 use Rattle.meaning.specs.Meaning.{blank}
 use Rattle.meaning.specs.Tables.{entry}
 use Rattle.meaning.specs.Tree.{Tree}
-use Rattle.meaning.proofs.Indexes.{first_ready}
-use Rattle.dict_rec.specs.declared.dictionary.Dictionary.{Dictionary}
-use Rattle.dict_build.specs.Renumbered.{Keys, Met, IsReady, at, entry_behind, new_entries, old_entries}
-use Rattle.dict_build.proofs.Keys.{zero_behind, zero_key}
+use Rattle.dict_build.specs.Renumbered.{Keys, at, entry_behind, new_entries}
+use Rattle.dict_build.proofs.Keys.{zero_behind}
 
 -- of a table none was met
 pub none_of : {X : Type 0} (f : X → Tree) (xs : List X) (n : ℕ) (met : List (Option ℕ)) → met ≡ replicate n None → n ≡ length xs → met ≡ replicate (length (map f xs)) None
@@ -21,12 +19,3 @@ none_of_viewed f view xs n met e h = none_of f (map view xs) n met e (h ∙ sym 
 -- the zero entries alone
 pub zeros_alone : (keys : Keys) → ((T : Table) → at keys T ≡ [] ∷ []) → (T : Table) → new_entries keys T ≡ blank (entry T) ∷ []
 zeros_alone keys h T = ap (map (entry_behind T)) (h T) ∙ ap (λ t. t ∷ []) (zero_behind T)
-
--- are ready
-pub ready_to_begin : (old : Dictionary) (keys : Keys) (met : Met) → ((T : Table) → at keys T ≡ [] ∷ [])
-    → ((T : Table) → at met T ≡ replicate (length (old_entries old T)) None) → IsReady old keys met
-ready_to_begin old keys met h e = record {
-  ready = first_ready (old_entries old) (new_entries keys) (at met) (zeros_alone keys h) e;
-  texts = λ T. rw (h T) (zero_key T, tt);
-  few = λ T. omega (arith, ap length (h T));
-}

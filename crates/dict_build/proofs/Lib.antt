@@ -10,3 +10,8 @@ pub mod Loops
 pub mod Texts
 pub mod OfProfiles
 pub mod Dictionaries
+pub mod Fronts
+pub mod Kept
+pub mod Filled
+pub mod Accepted
+pub mod Drafts

@@ -37,6 +37,19 @@ fn none_met(alloc: Global, len: usize) -> Result<Vec<Option<u32>>, AllocError>
 }
 
 impl Met {
+    /// Of no dictionary. It takes no memory.
+    pub fn none(alloc: Global) -> Met {
+        Met {
+            mappings: Vec::new(alloc),
+            locations: Vec::new(alloc),
+            functions: Vec::new(alloc),
+            links: Vec::new(alloc),
+            strings: Vec::new(alloc),
+            attributes: Vec::new(alloc),
+            stacks: Vec::new(alloc),
+        }
+    }
+
     /// No entry of a dictionary was met.
     pub fn begin(alloc: Global, old: &Dictionary) -> Result<Met, NoMemory>
         ensures { IfOk result (λ m. (T : Table) → at m T ≡ replicate (length (old_entries old.now T)) None) }

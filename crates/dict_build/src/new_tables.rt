@@ -1,8 +1,9 @@
 //! The tables of a new dictionary.
-ghost use Rattle.std.specs.Prelude.{◌≡◌, ◌<◌, ◌^◌, [], ◌∷◌, length, false, IfOk, OnOk, Some, slice_get};
+ghost use Rattle.std.specs.Prelude.{◌≡◌, ◌<◌, ◌≤◌, ◌^◌, [], ◌∷◌, length, false, IfOk, OnOk, OnErr, Some, slice_get};
 ghost use Rattle.schema.specs.Shape.{Table as OfSchema};
 ghost use Rattle.meaning.specs.Tables.{same_table};
 ghost use Rattle.tables.specs.Keys.{Interned};
+ghost use Rattle.dict_build.specs.Kept.{cut_to, lengths};
 ghost use Rattle.dict_build.specs.Renumbered.{at, table_of};
 
 use dict_rec::TableKind;
@@ -12,14 +13,14 @@ use std::alloc::Global;
 use std::hash::BuildHasher;
 use std::marker::Model;
 use std::sync::ledger::{Blank, Ledger};
-use tables::{EntryKey, Interner, Steps, Table};
+use tables::{EntryKey, Interner, Mark, Steps, Table};
 
 // The greatest number of entries of a table, whose indexes have 31 bits.
 const MOST_ENTRIES: u32 = 0x7FFF_FFFF;
 
 /// The keys of distinct entries by table, each table in the order in which its entries came.
 #[derive(Drop)]
-pub(crate) struct NewTables<S: BuildHasher, L: Ledger> {
+pub(crate) struct NewTables<S: BuildHasher> {
     mappings: Table<EntryKey, S>,
     locations: Table<EntryKey, S>,
     functions: Table<EntryKey, S>,
@@ -27,15 +28,35 @@ pub(crate) struct NewTables<S: BuildHasher, L: Ledger> {
     strings: Table<EntryKey, S>,
     attributes: Table<EntryKey, S>,
     stacks: Table<EntryKey, S>,
-    steps: Steps<L>,
 }
 
-impl<S: BuildHasher, L: Ledger> Model for NewTables<S, L> {
+impl<S: BuildHasher> Model for NewTables<S> {
     ghost use Rattle.dict_build.specs.Renumbered.{Keys};
 
     ghost Value = { Keys };
 
     ghost view = { λ t. record { mappings = t.mappings; locations = t.locations; functions = t.functions; links = t.links; strings = t.strings; attributes = t.attributes; stacks = t.stacks } };
+}
+
+/// How many keys each table had.
+#[derive(Drop)]
+pub(crate) struct TableMarks {
+    mappings: Mark,
+    locations: Mark,
+    functions: Mark,
+    links: Mark,
+    strings: Mark,
+    attributes: Mark,
+    stacks: Mark,
+}
+
+impl Model for TableMarks {
+    ghost use Rattle.std.specs.Prelude.{ℕ};
+    ghost use Rattle.dict_build.specs.Renumbered.{ByTable};
+
+    ghost Value = { ByTable ℕ };
+
+    ghost view = { λ m. record { mappings = m.mappings; locations = m.locations; functions = m.functions; links = m.links; strings = m.strings; attributes = m.attributes; stacks = m.stacks } };
 }
 
 // A table of its zero entry alone, which has no bytes.
@@ -56,13 +77,13 @@ pub(crate) fn zero_tables<M: Seeds, L: Ledger>(
     alloc: Global,
     seeds: &mut M,
     blank: Blank,
-) -> Result<NewTables<M::H, L>, NoMemory>
+) -> Result<NewTables<M::H>, NoMemory>
     requires name { blank.name ≡ L.name }
     requires parts { blank.parts ≡ L.parts }
     requires some { 0 < blank.parts }
     ensures { IfOk result (λ t. (T : OfSchema) → at t T ≡ [] ∷ []) }
 {
-    let mut steps = Steps::begin(blank);
+    let mut steps = Steps::<L>::begin(blank);
     let mappings = zero_table(alloc, seeds, &mut steps)?;
     let locations = zero_table(alloc, seeds, &mut steps)?;
     let functions = zero_table(alloc, seeds, &mut steps)?;
@@ -78,11 +99,10 @@ pub(crate) fn zero_tables<M: Seeds, L: Ledger>(
         strings,
         attributes,
         stacks,
-        steps,
     })
 }
 
-impl<S: BuildHasher + Drop, L: Ledger> NewTables<S, L> {
+impl<S: BuildHasher + Drop> NewTables<S> {
     // The table of a kind.
     fn table(&self, kind: TableKind) -> &Table<EntryKey, S>
         ensures { result.now ≡ at self.now (table_of kind) }
@@ -117,15 +137,20 @@ impl<S: BuildHasher + Drop, L: Ledger> NewTables<S, L> {
     }
 
     /// The place of a key in its table, where it goes to the end if it is new. A table that is full answers want of memory.
-    pub fn intern(&mut self, kind: TableKind, key: EntryKey) -> Result<u32, NoMemory>
+    pub fn intern<L: Ledger>(
+        &mut self,
+        kind: TableKind,
+        key: EntryKey,
+        steps: &mut Steps<L>,
+    ) -> Result<u32, NoMemory>
         ensures interned { IfOk result (Interned (at self.old (table_of kind)) key (at self.new (table_of kind))) }
+        ensures same { OnErr result ((T : OfSchema) → at self.new T ≡ at self.old T) }
         ensures others { OnOk result ((T : OfSchema) → same_table T (table_of kind) ≡ false → at self.new T ≡ at self.old T) }
         ensures few { OnOk result (length (at self.new (table_of kind)) < 2 ^ 31) }
     {
         if self.len(kind) >= MOST_ENTRIES {
             return Err(NoMemory);
         }
-        let steps = &mut self.steps;
         match kind {
             TableKind::Mapping => self.mappings.intern(key, steps),
             TableKind::Location => self.locations.intern(key, steps),
@@ -135,5 +160,34 @@ impl<S: BuildHasher + Drop, L: Ledger> NewTables<S, L> {
             TableKind::Attribute => self.attributes.intern(key, steps),
             TableKind::Stack => self.stacks.intern(key, steps),
         }
+    }
+
+    /// A mark of the numbers of keys, for `back_to`.
+    pub fn mark(&self) -> TableMarks
+        ensures { result ≡ lengths self.now }
+    {
+        TableMarks {
+            mappings: self.mappings.mark(),
+            locations: self.locations.mark(),
+            functions: self.functions.mark(),
+            links: self.links.mark(),
+            strings: self.strings.mark(),
+            attributes: self.attributes.mark(),
+            stacks: self.stacks.mark(),
+        }
+    }
+
+    /// Drops the keys that came after the mark. It takes no memory.
+    pub fn back_to(&mut self, marks: &TableMarks)
+        requires { (T : OfSchema) → at marks.now T ≤ length (at self.old T) }
+        ensures { self.new ≡ cut_to marks.now self.old }
+    {
+        self.mappings.back_to(marks.mappings);
+        self.locations.back_to(marks.locations);
+        self.functions.back_to(marks.functions);
+        self.links.back_to(marks.links);
+        self.strings.back_to(marks.strings);
+        self.attributes.back_to(marks.attributes);
+        self.stacks.back_to(marks.stacks);
     }
 }

@@ -6,7 +6,8 @@ ghost use Rattle.schema.specs.Spell.{len_onto, spell, spell_onto};
 ghost use Rattle.schema.specs.Texts.{bytes_field};
 ghost use Rattle.prof_rec.specs.Views.{profile_view, resource_profiles_view, sample_view, scope_profiles_view, value_type_view};
 ghost use Rattle.dict_build.specs.OtherIndexes.{later_rows, later_with, sample_with};
-ghost use Rattle.dict_build.specs.Renumbered.{IsPart, IsReady, IsSource, Step, StepText, StepTexts};
+ghost use Rattle.dict_build.specs.Kept.{Begins, StartsWith};
+ghost use Rattle.dict_build.specs.Renumbered.{HeadedTexts, IsPart, IsReady, IsSource, Keys, Step, StepText, StepTexts};
 
 use crate::renumbering::Renumbering;
 use dict_rec::Dictionary;
@@ -18,6 +19,7 @@ use prof_rec::{Profile, ResourceProfiles, Sample, ScopeProfiles, ValueType};
 use std::alloc::Global;
 use std::hash::BuildHasher;
 use std::sync::ledger::Ledger;
+use tables::Steps;
 
 // The spelling of a sample with these indexes.
 #[tactic(auto, using(pb_wire::proofs::Begins::growing))]
@@ -68,22 +70,24 @@ fn profile_with(
     Ok(text)
 }
 
-impl<S: BuildHasher + Drop, L: Ledger> Renumbering<S, L> {
+impl<S: BuildHasher + Drop> Renumbering<S> {
     // The type and the unit of values, with their new indexes.
-    fn value_type(
+    fn value_type<L: Ledger>(
         &mut self,
         alloc: Global,
         old: &Dictionary,
         found: &ValueType,
+        steps: &mut Steps<L>,
     ) -> Result<ValueType, NoMemory>
         requires ready { IsReady old.now self.old.tables self.old.met }
         requires source { IsSource old.now }
         requires part { IsPart value_type old.now (value_type_view found.now) }
         ensures ready { OnOk result (IsReady old.now self.new.tables self.new.met) }
+        ensures kept { (base : Keys) → Begins base self.old.tables → Begins base self.new.tables }
         ensures step { IfOk result (λ new. Step value_type old.now self.old.tables self.new.tables (value_type_view found.now) (value_type_view new)) }
     {
-        let type_strindex = self.string(alloc, old, found.type_strindex)?;
-        let unit_strindex = self.string(alloc, old, found.unit_strindex)?;
+        let type_strindex = self.string(alloc, old, found.type_strindex, steps)?;
+        let unit_strindex = self.string(alloc, old, found.unit_strindex, steps)?;
         Ok(ValueType {
             type_strindex,
             unit_strindex,
@@ -91,40 +95,44 @@ impl<S: BuildHasher + Drop, L: Ledger> Renumbering<S, L> {
     }
 
     // The spelling of a sample with its new indexes.
-    fn sample_text(
+    fn sample_text<L: Ledger>(
         &mut self,
         alloc: Global,
         old: &Dictionary,
         found: &Sample,
+        steps: &mut Steps<L>,
     ) -> Result<Blob, NoMemory>
         requires ready { IsReady old.now self.old.tables self.old.met }
         requires source { IsSource old.now }
         requires part { IsPart sample old.now (sample_view found.now) }
         ensures ready { OnOk result (IsReady old.now self.new.tables self.new.met) }
+        ensures kept { (base : Keys) → Begins base self.old.tables → Begins base self.new.tables }
         ensures text { IfOk result (StepText sample old.now self.old.tables self.new.tables (sample_view found.now)) }
     {
-        let stack_index = self.stack(alloc, old, found.stack_index)?;
-        let attribute_indices = self.attributes(alloc, old, &found.attribute_indices)?;
-        let link_index = self.link(alloc, old, found.link_index)?;
+        let stack_index = self.stack(alloc, old, found.stack_index, steps)?;
+        let attribute_indices = self.attributes(alloc, old, &found.attribute_indices, steps)?;
+        let link_index = self.link(alloc, old, found.link_index, steps)?;
         sample_with(alloc, found, stack_index, &attribute_indices, link_index)
     }
 
     // The spellings of samples with their new indexes, each behind its tag and length.
-    fn sample_texts(
+    fn sample_texts<L: Ledger>(
         &mut self,
         alloc: Global,
         old: &Dictionary,
         found: &Repeated<Sample>,
+        steps: &mut Steps<L>,
     ) -> Result<Blob, NoMemory>
         requires ready { IsReady old.now self.old.tables self.old.met }
         requires source { IsSource old.now }
         requires parts { Each (IsPart sample old.now) (map sample_view found.now) }
         ensures ready { OnOk result (IsReady old.now self.new.tables self.new.met) }
+        ensures kept { (base : Keys) → Begins base self.old.tables → Begins base self.new.tables }
         ensures texts { IfOk result (StepTexts sample 2 old.now self.old.tables self.new.tables (map sample_view found.now)) }
     {
         let mut texts = Blob::begin(alloc);
         for sample in found.as_slice() {
-            let text = match self.sample_text(alloc, old, sample) {
+            let text = match self.sample_text(alloc, old, sample, steps) {
                 Ok(text) => text,
                 Err(stop) => return Err(stop),
             };
@@ -136,22 +144,24 @@ impl<S: BuildHasher + Drop, L: Ledger> Renumbering<S, L> {
     }
 
     // The spelling of a profile with its new indexes.
-    fn profile_text(
+    fn profile_text<L: Ledger>(
         &mut self,
         alloc: Global,
         old: &Dictionary,
         found: &Profile,
+        steps: &mut Steps<L>,
     ) -> Result<Blob, NoMemory>
         requires ready { IsReady old.now self.old.tables self.old.met }
         requires source { IsSource old.now }
         requires part { IsPart profile old.now (profile_view found.now) }
         ensures ready { OnOk result (IsReady old.now self.new.tables self.new.met) }
+        ensures kept { (base : Keys) → Begins base self.old.tables → Begins base self.new.tables }
         ensures text { IfOk result (StepText profile old.now self.old.tables self.new.tables (profile_view found.now)) }
     {
-        let sample_type = self.value_type(alloc, old, &found.sample_type)?;
-        let samples = self.sample_texts(alloc, old, &found.samples)?;
-        let period_type = self.value_type(alloc, old, &found.period_type)?;
-        let attribute_indices = self.attributes(alloc, old, &found.attribute_indices)?;
+        let sample_type = self.value_type(alloc, old, &found.sample_type, steps)?;
+        let samples = self.sample_texts(alloc, old, &found.samples, steps)?;
+        let period_type = self.value_type(alloc, old, &found.period_type, steps)?;
+        let attribute_indices = self.attributes(alloc, old, &found.attribute_indices, steps)?;
         profile_with(
             alloc,
             found,
@@ -163,22 +173,24 @@ impl<S: BuildHasher + Drop, L: Ledger> Renumbering<S, L> {
     }
 
     // The spelling of a scope record with its new indexes.
-    fn scope_text(
+    fn scope_text<L: Ledger>(
         &mut self,
         alloc: Global,
         old: &Dictionary,
         found: &ScopeProfiles,
+        steps: &mut Steps<L>,
     ) -> Result<Blob, NoMemory>
         requires ready { IsReady old.now self.old.tables self.old.met }
         requires source { IsSource old.now }
         requires part { IsPart scope_profiles old.now (scope_profiles_view found.now) }
         ensures ready { OnOk result (IsReady old.now self.new.tables self.new.met) }
+        ensures kept { (base : Keys) → Begins base self.old.tables → Begins base self.new.tables }
         ensures text { IfOk result (StepText scope_profiles old.now self.old.tables self.new.tables (scope_profiles_view found.now)) }
     {
         let mut texts = Blob::begin(alloc);
         put_message(&mut texts, 1, &found.scope)?;
         for profile in found.profiles.as_slice() {
-            let text = match self.profile_text(alloc, old, profile) {
+            let text = match self.profile_text(alloc, old, profile, steps) {
                 Ok(text) => text,
                 Err(stop) => return Err(stop),
             };
@@ -191,22 +203,24 @@ impl<S: BuildHasher + Drop, L: Ledger> Renumbering<S, L> {
     }
 
     // The spelling of a resource record with its new indexes.
-    fn resource_text(
+    fn resource_text<L: Ledger>(
         &mut self,
         alloc: Global,
         old: &Dictionary,
         found: &ResourceProfiles,
+        steps: &mut Steps<L>,
     ) -> Result<Blob, NoMemory>
         requires ready { IsReady old.now self.old.tables self.old.met }
         requires source { IsSource old.now }
         requires part { IsPart resource_profiles old.now (resource_profiles_view found.now) }
         ensures ready { OnOk result (IsReady old.now self.new.tables self.new.met) }
+        ensures kept { (base : Keys) → Begins base self.old.tables → Begins base self.new.tables }
         ensures text { IfOk result (StepText resource_profiles old.now self.old.tables self.new.tables (resource_profiles_view found.now)) }
     {
         let mut texts = Blob::begin(alloc);
         put_message(&mut texts, 1, &found.resource)?;
         for scope in found.scope_profiles.as_slice() {
-            let text = match self.scope_text(alloc, old, scope) {
+            let text = match self.scope_text(alloc, old, scope, steps) {
                 Ok(text) => text,
                 Err(stop) => return Err(stop),
             };
@@ -218,29 +232,33 @@ impl<S: BuildHasher + Drop, L: Ledger> Renumbering<S, L> {
         Ok(texts)
     }
 
-    /// The spellings of resource records with their new indexes, each behind its tag and length.
-    pub fn resource_texts(
+    /// Puts the spellings of resource records with their new indexes at the end, each behind its tag and length. What stood
+    /// there before is kept, also after an error.
+    pub fn put_resources<L: Ledger>(
         &mut self,
         alloc: Global,
         old: &Dictionary,
         records: &[ResourceProfiles],
-    ) -> Result<Blob, NoMemory>
+        out: &mut Blob,
+        steps: &mut Steps<L>,
+    ) -> Result<(), NoMemory>
         requires ready { IsReady old.now self.old.tables self.old.met }
         requires source { IsSource old.now }
         requires parts { Each (IsPart resource_profiles old.now) (map resource_profiles_view records.now) }
         ensures ready { OnOk result (IsReady old.now self.new.tables self.new.met) }
-        ensures texts { IfOk result (StepTexts resource_profiles 1 old.now self.old.tables self.new.tables (map resource_profiles_view records.now)) }
+        ensures kept { (base : Keys) → Begins base self.old.tables → Begins base self.new.tables }
+        ensures front { StartsWith out.old out.new }
+        ensures texts { OnOk result (HeadedTexts out.old resource_profiles 1 old.now self.old.tables self.new.tables (map resource_profiles_view records.now) out.new) }
     {
-        let mut texts = Blob::begin(alloc);
         for resource in records {
-            let text = match self.resource_text(alloc, old, resource) {
+            let text = match self.resource_text(alloc, old, resource, steps) {
                 Ok(text) => text,
                 Err(stop) => return Err(stop),
             };
-            if let Err(stop) = put_field(&mut texts, 1, &Payload::Bytes(text.as_slice())) {
+            if let Err(stop) = put_field(out, 1, &Payload::Bytes(text.as_slice())) {
                 return Err(stop);
             }
         }
-        Ok(texts)
+        Ok(())
     }
 }

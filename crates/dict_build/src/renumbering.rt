@@ -1,23 +1,21 @@
 //! The new indexes of old ones.
-ghost use Rattle.std.specs.Prelude.{◌≡◌, ◌<◌, ◌∷◌, [], pos, length, replicate, None, IfOk, OnOk};
-ghost use Rattle.schema.specs.Shape.{Table as OfSchema};
+ghost use Rattle.std.specs.Prelude.{◌≡◌, ◌<◌, pos, length, IfOk, OnOk};
 ghost use Rattle.dict_build.specs.Known.{IsKnown};
-ghost use Rattle.dict_build.specs.Renumbered.{IsKeyOf, IsPart, IsReady, IsSource, Step, at, index_into, old_entries, table_of};
+ghost use Rattle.dict_build.specs.Kept.{Begins};
+ghost use Rattle.dict_build.specs.Renumbered.{IsKeyOf, IsPart, IsReady, IsSource, Keys, Step, index_into, old_entries, table_of};
 
+use crate::measured_tables::MeasuredTables;
 use crate::met::Met;
-use crate::new_tables::{NewTables, zero_tables};
 use dict_rec::{Dictionary, TableKind};
-use outside::Seeds;
 use pb_wire::{Blob, NoMemory};
-use std::alloc::Global;
 use std::hash::BuildHasher;
-use std::sync::ledger::{Blank, Ledger};
-use tables::EntryKey;
+use std::sync::ledger::Ledger;
+use tables::{EntryKey, Steps};
 
 /// The tables of a new dictionary, and the new index of each entry of an old one that was met.
 #[derive(Drop)]
-pub(crate) struct Renumbering<S: BuildHasher, L: Ledger> {
-    pub tables: NewTables<S, L>,
+pub(crate) struct Renumbering<S: BuildHasher> {
+    pub tables: MeasuredTables<S>,
     pub met: Met,
 }
 
@@ -28,25 +26,7 @@ pub(crate) enum Known {
     Unmet(usize),
 }
 
-/// The zero entries alone, and no index that was met.
-pub(crate) fn begin_renumbering<M: Seeds, L: Ledger>(
-    alloc: Global,
-    old: &Dictionary,
-    seeds: &mut M,
-    blank: Blank,
-) -> Result<Renumbering<M::H, L>, NoMemory>
-    requires name { blank.name ≡ L.name }
-    requires parts { blank.parts ≡ L.parts }
-    requires some { 0 < blank.parts }
-    ensures tables { IfOk result (λ r. (T : OfSchema) → at r.tables T ≡ [] ∷ []) }
-    ensures met { IfOk result (λ r. (T : OfSchema) → at r.met T ≡ replicate (length (old_entries old.now T)) None) }
-{
-    let tables = zero_tables(alloc, seeds, blank)?;
-    let met = Met::begin(alloc, old)?;
-    Ok(Renumbering { tables, met })
-}
-
-impl<S: BuildHasher + Drop, L: Ledger> Renumbering<S, L> {
+impl<S: BuildHasher + Drop> Renumbering<S> {
     /// What is known of an index into a table of the old dictionary.
     pub fn known(&self, _old: &Dictionary, kind: TableKind, index: i32) -> Known
         requires ready { IsReady _old.now self.now.tables self.now.met }
@@ -65,20 +45,22 @@ impl<S: BuildHasher + Drop, L: Ledger> Renumbering<S, L> {
     }
 
     /// The new index of the entry at a place of the old dictionary, which becomes the entry with this key.
-    pub fn enter(
+    pub fn enter<L: Ledger>(
         &mut self,
         _old: &Dictionary,
         kind: TableKind,
         place: usize,
         key: Blob,
+        steps: &mut Steps<L>,
     ) -> Result<i32, NoMemory>
         requires ready { IsReady _old.now self.old.tables self.old.met }
         requires place { place < length (old_entries _old.now (table_of kind)) }
         requires key { IsKeyOf (table_of kind) _old.now self.old.tables place key }
         ensures ready { OnOk result (IsReady _old.now self.new.tables self.new.met) }
+        ensures kept { (base : Keys) → Begins base self.old.tables → Begins base self.new.tables }
         ensures step { IfOk result (λ new. Step (index_into (table_of kind)) _old.now self.old.tables self.new.tables (pos place) new) }
     {
-        let new = self.tables.intern(kind, EntryKey::from_blob(key))?;
+        let new = self.tables.intern(kind, EntryKey::from_blob(key), steps)?;
         self.met.note(kind, place, new);
         Ok(new as i32)
     }

@@ -1,22 +1,11 @@
 -- The canonical bytes of a message, and what is known of them.
 use Rattle.std.specs.Prelude.{◌≡◌, ℕ, List, length, if◌then◌else◌, nat_lt, Result, Ok, Err}
-use Rattle.schema.specs.Each.{Each}
-use Rattle.schema.specs.Fits.{Fits}
-use Rattle.schema.specs.Messages.{resource_profiles, envelope}
-use Rattle.meaning.specs.Meaning.{IsMeaning}
-use Rattle.meaning.specs.Message.{meaning_of, canonical_value, meaning_text}
-use Rattle.meaning.specs.Tree.{Tree}
-use Rattle.otlp_msg.specs.Message.{Message, message_limit, message_of}
+use Rattle.schema.specs.Messages.{resource_profiles}
+use Rattle.meaning.specs.Message.{meaning_text}
+use Rattle.otlp_msg.specs.Message.{Message, message_limit}
+pub use Rattle.dict_build.specs.Meanings.{Meaning, CanBeWritten, IsAcceptedAs, meaning}
 use Rattle.dict_build.specs.declared.fault.BuildFault.{BuildFault}
 use Rattle.dict_build.specs.declared.fault.BuildFault.TheVariants.{OutputLimit, NoMemory}
-
--- a meaning: resource records, in which each index is replaced by the value of its entry
-abbrev pub Meaning : Type 0
-Meaning = List Tree
-
--- the meaning of a message
-abbrev pub meaning : Message → Meaning
-meaning m = meaning_of resource_profiles m
 
 -- the canonical bytes of a meaning
 unfoldable pub canonical_bytes : Meaning → List ℕ
@@ -34,17 +23,6 @@ canon_of m = within_limit (canonical_bytes (meaning m))
 abbrev pub IsBuildFault : {T : Type 0} → Result T BuildFault → BuildFault → Type 0
 IsBuildFault want (OutputLimit size) = want ≡ Err (OutputLimit size)
 IsBuildFault want NoMemory = Unit {0}
-
--- the bytes are accepted as a message with this meaning
-pub record IsAcceptedAs (bytes : List ℕ) (ms : Meaning) : Type 0 where
-  pub message : Message
-  pub accepted : message_of bytes ≡ Ok message
-  pub same : meaning message ≡ ms
-
--- a meaning whose canonical message can be written
-pub record CanBeWritten (ms : Meaning) : Type 0 where
-  pub means : Each (IsMeaning resource_profiles) ms
-  pub fits : Fits envelope (canonical_value resource_profiles ms)
 
 -- the bytes are the canonical ones of this meaning alone
 abbrev pub IsOnlyOf : List ℕ → Meaning → Type 0

@@ -1,15 +1,15 @@
 //! Laws of canonical bytes.
-ghost use Rattle.std.specs.Prelude.{◌≡◌, ◌≤◌, ℕ, List, length, Ok};
+ghost use Rattle.std.specs.Prelude.{◌≡◌, ℕ, List, Ok};
 ghost use Rattle.schema.specs.Fits.{Fits};
 ghost use Rattle.schema.specs.Messages.{envelope};
-ghost use Rattle.otlp_msg.specs.Message.{Message, message_limit, message_of};
+ghost use Rattle.otlp_msg.specs.Message.{Message, message_of};
 ghost use Rattle.split_merge.specs.Canonical.{Meaning, meaning, canonical_bytes, canon_of, CanBeWritten, IsAcceptedAs, IsOnlyOf};
 
-/// The canonical bytes of a meaning that can be written are accepted with this meaning, where they are not too many
-/// (`meanings`). So are those of a message that can be written, as each accepted message can (`messages`), and they are
-/// their own canonical bytes (`again`).
+/// The canonical bytes of a meaning that can be written are accepted with this meaning (`meanings`). So are those of a message
+/// that can be written, as each accepted message can, where they are not too many (`messages`), and they are their own
+/// canonical bytes (`again`).
 pub fn canonical_bytes_are_accepted()
-    ensures meanings { (ms : Meaning) → CanBeWritten ms → length (canonical_bytes ms) ≤ message_limit → IsAcceptedAs (canonical_bytes ms) ms }
+    ensures meanings { (ms : Meaning) → CanBeWritten ms → IsAcceptedAs (canonical_bytes ms) ms }
     ensures messages { (m : Message) → (b : List ℕ) → Fits envelope m → canon_of m ≡ Ok b → IsAcceptedAs b (meaning m) }
     ensures again { (m : Message) → (b : List ℕ) → Fits envelope m → canon_of m ≡ Ok b → (n : Message) → message_of b ≡ Ok n → canon_of n ≡ Ok b }
 {}

@@ -5,3 +5,6 @@ mod canonical;
 pub mod laws;
 
 pub use canonical::canon;
+
+#[cfg(test)]
+mod draft_tests;

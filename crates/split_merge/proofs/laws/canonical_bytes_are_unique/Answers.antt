@@ -1,11 +1,11 @@
 use Rattle.std.proofs.Common.{ap}
 use Rattle.split_merge.specs.Canonical.{canonical_bytes, within_limit}
-use Rattle.split_merge.proofs.Bytes.{apart, canon_apart}
+use Rattle.split_merge.proofs.Bytes.{canon_apart, only_meaning}
 use Rattle.split_merge.proofs.laws.canonical_bytes_are_unique.Goals as goal
 
 pub returns : goal.returns
 returns c = record {
-  meanings = λ ms w ns x e. apart ns ms x w e;
+  meanings = only_meaning;
   apart = λ m n b f g e q. canon_apart m n f g b e q;
   same = λ m n e. ap (λ ms. within_limit (canonical_bytes ms)) e;
 }

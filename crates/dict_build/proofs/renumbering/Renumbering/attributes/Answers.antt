@@ -26,6 +26,7 @@ loop-index-preserved g c =
     let h : FitsSigned w32 c.in-Ok.new = search rules in
     record {
       ready = c.in-Ok.ensures.ready;
+      kept = λ base h. c.in-Ok.ensures.kept base (c.loop-index.invariant.kept base h);
       steps = each_more (index_into Attributes) c.args.old.now c.args.self.now.tables c.loop-index.self.tables c.attribute.new.self.tables (λ z. z) (λ z. z) items i (pos 0)
           c.loop-index.news c.add.new.self _ c.loop-index-test.true c.in_default.ensures.ok c.loop-index.invariant.steps
           (passed Attributes (entry Attributes) c.args.old.now c.loop-index.self.tables c.attribute.new.self.tables (get_or items i (pos 0)) c.in-Ok.new f h c.in-Ok.ensures.step);

@@ -19,6 +19,7 @@ line-requires-clause-part g c =
 pub loop-line-preserved : goal.loop-line-preserved
 loop-line-preserved g c = record {
   ready = c.in-Ok.ensures.ready;
+  kept = λ base h. c.in-Ok.ensures.kept base (c.loop-line.invariant.kept base h);
   steps = each_more line c.args.old.now c.args.self.now.tables c.loop-line.self.tables c.line.new.self.tables line_view line_view c.as_slice-line-items.result.now c.loop-line.line-index no_line
       c.loop-line.news c.add.new.self c.in-Ok.new c.loop-line-test.true c.in_default.ensures.ok c.loop-line.invariant.steps c.in-Ok.ensures.step;
 }

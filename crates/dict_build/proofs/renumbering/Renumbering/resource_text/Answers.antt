@@ -20,12 +20,14 @@ loop-scope-init g c =
     let head = bytes_field 1 (spell resource (resource_view c.args.found.now.resource)) in
     record {
       ready = c.requires.ready;
+      kept = λ base h. h;
       texts = headed_none scope_profiles 2 c.args.old.now c.args.self.now.tables head c.put_message.new.out (c.in_ok-put_message.ensures.ok ∙ ap (λ t. t ++ head) c.begin-texts.ensures);
     }
 
 pub loop-scope-preserved : goal.loop-scope-preserved
 loop-scope-preserved g c = record {
   ready = c.in-Ok.ensures.ready;
+  kept = λ base h. c.in-Ok.ensures.kept base (c.loop-scope.invariant.kept base h);
   texts = headed_more scope_profiles 2 c.args.old.now c.args.self.now.tables c.loop-scope.self.tables c.scope_text.new.self.tables scope_profiles_view c.as_slice-scope-items.result.now c.loop-scope.scope-index
       c.scope-item.result (bytes_field 1 (spell resource (resource_view c.args.found.now.resource))) c.loop-scope.texts c.put_field.new.out c.in-Ok.text c.loop-scope-test.true c.scope-item.is
       c.loop-scope.invariant.texts c.in-Ok.ensures.text (c.in_default.ensures.ok ∙ ap (λ t. c.loop-scope.texts ++ long_field 2 t) c.as_slice.ensures);

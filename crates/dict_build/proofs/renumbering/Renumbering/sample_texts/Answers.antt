@@ -16,6 +16,7 @@ sample_text-requires-clause-part g c =
 pub loop-sample-preserved : goal.loop-sample-preserved
 loop-sample-preserved g c = record {
   ready = c.in-Ok.ensures.ready;
+  kept = λ base h. c.in-Ok.ensures.kept base (c.loop-sample.invariant.kept base h);
   texts = texts_more sample 2 c.args.old.now c.args.self.now.tables c.loop-sample.self.tables c.sample_text.new.self.tables sample_view c.as_slice-sample-items.result.now c.loop-sample.sample-index
       c.sample-item.result c.loop-sample.texts c.put_field.new.out c.in-Ok.text c.loop-sample-test.true c.sample-item.is c.loop-sample.invariant.texts c.in-Ok.ensures.text
       (c.in_default.ensures.ok ∙ ap (λ t. c.loop-sample.texts ++ long_field 2 t) c.as_slice.ensures);

@@ -20,12 +20,14 @@ loop-profile-init g c =
     let head = bytes_field 1 (spell scope (scope_view c.args.found.now.scope)) in
     record {
       ready = c.requires.ready;
+      kept = λ base h. h;
       texts = headed_none profile 2 c.args.old.now c.args.self.now.tables head c.put_message.new.out (c.in_ok-put_message.ensures.ok ∙ ap (λ t. t ++ head) c.begin-texts.ensures);
     }
 
 pub loop-profile-preserved : goal.loop-profile-preserved
 loop-profile-preserved g c = record {
   ready = c.in-Ok.ensures.ready;
+  kept = λ base h. c.in-Ok.ensures.kept base (c.loop-profile.invariant.kept base h);
   texts = headed_more profile 2 c.args.old.now c.args.self.now.tables c.loop-profile.self.tables c.profile_text.new.self.tables profile_view c.as_slice-profile-items.result.now c.loop-profile.profile-index
       c.profile-item.result (bytes_field 1 (spell scope (scope_view c.args.found.now.scope))) c.loop-profile.texts c.put_field.new.out c.in-Ok.text c.loop-profile-test.true c.profile-item.is
       c.loop-profile.invariant.texts c.in-Ok.ensures.text (c.in_default.ensures.ok ∙ ap (λ t. c.loop-profile.texts ++ long_field 2 t) c.as_slice.ensures);

@@ -1,0 +1,8 @@
+use Rattle.dict_build.specs.Kept.{keys_text}
+use Rattle.dict_build.proofs.Filled.{dictionary_put}
+use Rattle.dict_build.proofs.contents.put_dictionary.Goals as goal
+
+pub returns-clause-ok : goal.returns-clause-ok
+returns-clause-ok g c =
+    dictionary_put c.args.out.now c.put_varint.new.out c.put_varint-2.new.out c.put_tables.new.out (keys_text c.args.tables.now) c.text_len.result c.text_len.ensures.is
+    c.in_ok-put_varint.ensures.ok c.in_ok-put_varint-2.ensures.ok c.in_ok-put_tables.ensures.ok
