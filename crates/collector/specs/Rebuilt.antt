@@ -8,7 +8,7 @@ use Rattle.collector.specs.declared.output.Output.{Output}
 use Rattle.commands.specs.declared.words.ToolPlan.{ToolPlan}
 use Rattle.commands.specs.declared.words.ToolPlan.TheVariants.{Check, Canon}
 
--- one file is written; it is accepted with the meaning of this message, and is that of no other meaning
+-- one file is written; it is accepted with the meaning of this message, and of no other one that can be written
 pub record IsRebuilt (message : Message) (target : List ℕ) (output : Output) : Type 0 where
   pub bytes : List ℕ
   pub files : output.files ≡ (target, bytes) ∷ []

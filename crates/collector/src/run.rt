@@ -67,7 +67,7 @@ pub fn run_tool<F: Files, O: Sink, E: Sink, M: Seeds>(
     ensures err { IsAnswered result → ¬ (Rose (E.faults err.old) (E.faults err.new)) → IfSome (F.told files.old) (λ m.
         E.taken err.new ≡ appended (E.taken err.old) (answer (texts_of words.now) m).err) }
     // After 0 the files that the answer writes keep what their command promises: what is written is accepted, with the meaning
-    // of what was read, and is that of no other meaning.
+    // of what was read, and is that of no other one that can be written.
     ensures rebuilt { result ≡ 0 → IfSome (F.told files.old) (λ m. IfOk (planned (texts_of words.now)) (λ plan. IfOk (performed plan m) (KeepsMeaning plan m))) }
     ensures silent { result ≡ 0 → E.taken err.new ≡ E.taken err.old }
 

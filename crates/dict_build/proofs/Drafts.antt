@@ -18,7 +18,7 @@ use Rattle.otlp_msg.specs.Message.{Message, message_limit}
 use Rattle.otlp_msg.specs.Views.{message_view}
 use Rattle.dict_build.specs.Contents.{Contents, IsDraft, whole_text}
 use Rattle.dict_build.specs.declared.fault.BuildFault.{BuildFault}
-use Rattle.dict_build.specs.Draft.{IsFaultOf, Stands, StandsFor}
+use Rattle.dict_build.specs.Draft.{IsFaultOf, StandsFor, StandsForSome}
 use Rattle.dict_build.specs.Meanings.{Meaning, IsAcceptedAs, meaning, size_of}
 use Rattle.dict_build.specs.Renumbered.{Keys, IsPart, IsSource, at}
 use Rattle.dict_build.proofs.Accepted.{apart, joined_written, meaning_accepted}
@@ -92,10 +92,10 @@ joined_stands d d' ms w m e s fits r few = record {
 }
 
 -- after each answer a draft stands for some meaning
-pub still_stands : {A E : Type 0} (r : Result A E) (d d' : Contents) (f : List Tree → List Tree) → Stands d → OnOk r ((ms : List Tree) → StandsFor d ms → StandsFor d' (f ms)) → OnErr r (d' ≡ d)
-    → Stands d'
+pub still_stands : {A E : Type 0} (r : Result A E) (d d' : Contents) (f : List Tree → List Tree) → StandsForSome d → OnOk r ((ms : List Tree) → StandsFor d ms → StandsFor d' (f ms)) → OnErr r (d' ≡ d)
+    → StandsForSome d'
 still_stands (Ok x) d d' f s ok err = (f s.0, ok s.0 s.1)
-still_stands (Err e) d d' f s ok err = subst Stands (sym err) s
+still_stands (Err e) d d' f s ok err = subst StandsForSome (sym err) s
 
 -- a fault of equal messages
 pub fault_same : (ms : Meaning) (w m : Message) (fault : BuildFault) → w ≡ m → IsFaultOf (ms ++ meaning w) fault → IsFaultOf (ms ++ meaning m) fault

@@ -12,8 +12,8 @@ pub record StandsFor (d : Contents) (ms : Meaning) : Type 0 where
   pub written : CanBeWritten ms
 
 -- it stands for some meaning
-abbrev pub Stands : Contents → Type 0
-Stands d = (ms : Meaning) × StandsFor d ms
+abbrev pub StandsForSome : Contents → Type 0
+StandsForSome d = (ms : Meaning) × StandsFor d ms
 
 -- The fault of a meaning: its canonical bytes are more than a message may have, and their number is told; or memory was wanting.
 abbrev pub IsFaultOf : Meaning → BuildFault → Type 0

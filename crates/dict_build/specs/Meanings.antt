@@ -20,7 +20,8 @@ meaning m = meaning_of resource_profiles m
 abbrev pub size_of : Meaning → ℕ
 size_of ms = length (meaning_text resource_profiles ms)
 
--- A meaning can be written where its leaves are in their ranges and its canonical bytes are no more than a message may have.
+-- A meaning can be written where its trees have the form of records, their leaves are in their ranges, and its canonical bytes
+-- are no more than a message may have.
 pub record CanBeWritten (ms : Meaning) : Type 0 where
   pub means : Each (IsMeaning resource_profiles) ms
   pub ranges : Each (HasRange resource_profiles) ms

@@ -4,7 +4,7 @@ ghost use Rattle.schema.specs.Messages.{resource_profiles};
 ghost use Rattle.meaning.specs.Message.{meaning_text};
 ghost use Rattle.otlp_msg.specs.Checked.{value_of};
 ghost use Rattle.otlp_msg.specs.Message.{message_limit};
-ghost use Rattle.dict_build.specs.Draft.{IsFaultOf, Stands, StandsFor};
+ghost use Rattle.dict_build.specs.Draft.{IsFaultOf, StandsFor, StandsForSome};
 ghost use Rattle.dict_build.specs.Meanings.{Meaning, IsAcceptedAs, meaning, size_of};
 
 use crate::contents::{append_within_limit, discard_contents, whole_bytes, whole_len};
@@ -30,13 +30,13 @@ pub struct Draft<M: Seeds> {
 
 impl<M: Seeds> Model for Draft<M> {
     ghost use Rattle.dict_build.specs.Contents.{Contents};
-    ghost use Rattle.dict_build.specs.Draft.{Stands};
+    ghost use Rattle.dict_build.specs.Draft.{StandsForSome};
 
     ghost Value = { Contents };
 
     ghost view = { λ d. record { keys = d.renumbering.tables; records = d.records } };
 
-    ghost invariant = { λ d. Stands (record { keys = d.renumbering.tables; records = d.records }) };
+    ghost invariant = { λ d. StandsForSome (record { keys = d.renumbering.tables; records = d.records }) };
 }
 
 impl<M: Seeds> Draft<M> {
@@ -54,7 +54,7 @@ impl<M: Seeds> Draft<M> {
     /// The number of bytes of the draft, if it were finished now. It takes no memory.
     pub fn size(&self) -> u64
         ensures is { (ms : Meaning) → StandsFor self.now ms → result ≡ size_of ms }
-        ensures stands { Stands self.now }
+        ensures stands { StandsForSome self.now }
         ensures most { result ≤ message_limit }
         ensures empty { StandsFor self.now [] → result ≡ 16 }
     {
@@ -96,6 +96,7 @@ impl<M: Seeds> Draft<M> {
     pub fn finish(self) -> Result<Blob, (Draft<M>, NoMemory)>
         ensures ok { IfOk result (λ bytes. (ms : Meaning) → StandsFor self ms → bytes ≡ meaning_text resource_profiles ms) }
         ensures accepted { IfOk result (λ bytes. (ms : Meaning) → StandsFor self ms → IsAcceptedAs bytes ms) }
+        ensures stands { StandsForSome self }
         ensures same { IfErr result (λ back. back.0 ≡ self) }
     {
         let Draft {
@@ -114,7 +115,7 @@ impl<M: Seeds> Draft<M> {
         }
     }
 
-    /// Drops the draft. A call of this is proved in seconds for any seeds, and the end of a draft's scope in minutes.
+    /// Drops the draft. Where its seeds are any, a call is proved in seconds, and the end of a scope in a minute.
     pub fn discard(self) {
         let Draft {
             renumbering,

@@ -119,7 +119,7 @@ impl<S: BuildHasher + Drop> MeasuredTables<S> {
     }
 
     /// The place of a key in its table, where it goes to the end if it is new. A full table answers want of memory, and so do
-    /// tables whose spelling could pass 2^62 bytes, also of a key that they have. No message leads there.
+    /// tables whose spelling could pass 2^62 bytes, also of a key that they have.
     pub fn intern<L: Ledger>(
         &mut self,
         kind: TableKind,

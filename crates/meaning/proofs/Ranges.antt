@@ -21,7 +21,7 @@ use Rattle.meaning.specs.Tree.{Tree, Integer, Nil, listed, elements, tree, value
 use Rattle.meaning.specs.Tables.{Tables, IsSound, entry, field_of, place}
 use Rattle.meaning.specs.Meaning.{at_each, zero_value, entry_at, resolve, AreParts, AreElements}
 use Rattle.meaning.specs.Canonical.{tables_of, renumber, entries, records, record_list}
-use Rattle.meaning.specs.Ranges.{AlsoRange, HasRange}
+use Rattle.meaning.specs.Ranges.{ElementsInRange, HasRange}
 use Rattle.meaning.specs.Message.{dictionary, message, tables_in, meaning_of, table_values, dictionary_value, tables_for, canonical_value, meaning_text, entry_text, table_text, dictionary_text, record_text}
 use Rattle.meaning.proofs.Trees.{value-tree}
 use Rattle.meaning.proofs.Places.{each_all}
@@ -55,7 +55,7 @@ in_range s x h = tt
 -- ---- meanings
 
 -- an empty list of AnyValues holds such
-nil_also : (k : Shape) → AlsoRange k Nil
+nil_also : (k : Shape) → ElementsInRange k Nil
 nil_also (Any depth) = refl
 nil_also k = tt
 
@@ -66,7 +66,7 @@ values_also d depth [] h = refl
 values_also d depth (v ∷ vs) h = (subst (AnyInRange (any_levels depth)) (sym (value-tree (Any depth) v)) h.0, values_also d depth vs h.1)
 
 -- what a repeated row means
-list_also : (d : Tables) (k : Shape) (vs : List (Value k)) → AlsoIn k vs → AlsoRange k (at_each (resolve d k) (listed (map (tree k) vs)))
+list_also : (d : Tables) (k : Shape) (vs : List (Value k)) → AlsoIn k vs → ElementsInRange k (at_each (resolve d k) (listed (map (tree k) vs)))
 list_also d (Any depth) vs h = values_also d depth vs h
 list_also d k vs h = tt
 
@@ -118,7 +118,7 @@ tables_range s i m h T = tables_have HasRange handed_on (λ U. zero_range (entry
     handed_on = record {
       one = λ n k rest t h. h;
       many = λ n k rest t h.
-          by_parts (λ t. AreParts (AreElements (HasRange k)) (HasRange rest) t) (λ e. AreElements (HasRange k) e × AlsoRange k e) (HasRange rest) (λ t ts p q. (p.0, q)) t h;
+          by_parts (λ t. AreParts (AreElements (HasRange k)) (HasRange rest) t) (λ e. AreElements (HasRange k) e × ElementsInRange k e) (HasRange rest) (λ t ts p q. (p.0, q)) t h;
       index = λ U k t h. h;
     }
 
@@ -147,7 +147,7 @@ values_renumbered v depth t h =
     (λ u us m o. (m, o)) t h
 
 -- the elements of a repeated row
-elements_also : (v : Tables) (k : Shape) (t : Tree) → AlsoRange k t → AlsoIn k (map (value k) (elements (at_each (renumber v k) t)))
+elements_also : (v : Tables) (k : Shape) (t : Tree) → ElementsInRange k t → AlsoIn k (map (value k) (elements (at_each (renumber v k) t)))
 elements_also v (Any depth) t h = values_renumbered v depth t h
 elements_also v k t h = tt
 
@@ -157,7 +157,7 @@ renumbered_range v l (One n k rest) t h =
     by_parts (λ t. InRange (One n k rest) (value (One n k rest) (renumber v (One n k rest) t))) (HasRange k) (HasRange rest)
     (λ t ts p q. (renumbered_range v l k t p, renumbered_range v l rest ts q)) t h
 renumbered_range v l (Many n k rest) t h =
-    by_parts (λ t. InRange (Many n k rest) (value (Many n k rest) (renumber v (Many n k rest) t))) (λ e. AreElements (HasRange k) e × AlsoRange k e) (HasRange rest)
+    by_parts (λ t. InRange (Many n k rest) (value (Many n k rest) (renumber v (Many n k rest) t))) (λ e. AreElements (HasRange k) e × ElementsInRange k e) (HasRange rest)
     (λ t ts p q. (
       by_elements (λ u. Each (InRange k) (map (value k) (elements (at_each (renumber v k) u)))) (HasRange k) tt
           (λ u us m o. (renumbered_range v l k u m, o)) t p.0,
@@ -217,7 +217,7 @@ whole_most k h ms T =
 -- ---- messages
 
 -- nothing more is asked of a row of messages
-message_also : (k : Shape) → IsMessage k → (t : Tree) → AlsoRange k t
+message_also : (k : Shape) → IsMessage k → (t : Tree) → ElementsInRange k t
 message_also End h t = tt
 message_also (One n k rest) h t = tt
 message_also (Many n k rest) h t = tt

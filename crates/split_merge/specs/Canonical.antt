@@ -24,6 +24,6 @@ abbrev pub IsBuildFault : {T : Type 0} → Result T BuildFault → BuildFault �
 IsBuildFault want (OutputLimit size) = want ≡ Err (OutputLimit size)
 IsBuildFault want NoMemory = Unit {0}
 
--- the bytes are the canonical ones of this meaning alone
+-- of the meanings that can be written, the bytes are the canonical ones of this one alone
 abbrev pub IsOnlyOf : List ℕ → Meaning → Type 0
 IsOnlyOf bytes ms = (ns : Meaning) → CanBeWritten ns → canonical_bytes ns ≡ bytes → ns ≡ ms

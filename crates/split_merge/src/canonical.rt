@@ -21,7 +21,7 @@ pub fn canon<M: Seeds>(
     ensures ok { IfOk result (λ b. canon_of (value_of message.now) ≡ Ok b) }
     ensures refused { IfErr result (IsBuildFault (canon_of (value_of message.now))) }
 
-    // What is written is accepted, with the same meaning, and no other meaning has these bytes.
+    // What is written is accepted, with the same meaning, and no other meaning that can be written has these bytes.
     ensures accepted { IfOk result (λ b. IsAcceptedAs b (meaning (value_of message.now))) }
     ensures unique { IfOk result (λ b. IsOnlyOf b (meaning (value_of message.now))) }
 {
