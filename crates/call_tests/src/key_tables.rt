@@ -1,6 +1,6 @@
+//! Tables of keys: the hashed one and the searched one under the same calls.
 ghost use Rattle.std.specs.Prelude.{◌≡◌, ◌+◌, ◌<◌, ◌≤◌, [], length, OnOk};
 
-use super::*;
 use pb_wire::{Blob, NoMemory};
 use std::alloc::Global;
 use std::hash::{BuildHasherDefault, FoldHasher};
@@ -8,6 +8,13 @@ use std::marker::Brand;
 use std::process::Abort;
 use std::sync::ledger::{Blank, Ledger};
 use std::test::Fail;
+use tables::{EntryKey, Interner, SearchedTable, Steps, Table};
+
+// The hashed table with the fixed seed.
+type Hashed = Table<EntryKey, BuildHasherDefault<FoldHasher>>;
+
+// The searched table.
+type Searched = SearchedTable<EntryKey>;
 
 // The answer for a key of these bytes.
 fn ask<T: Interner<EntryKey>, L: Ledger>(
@@ -75,25 +82,6 @@ fn try_a_few<T: Interner<EntryKey>, L: Ledger>(
     Ok(())
 }
 
-#[test]
-fn a_hashed_table_answers_first_places(rt: HostRuntime) -> Result<(), Fail> {
-    let alloc = rt.alloc();
-    let mut table = Table::begin(alloc, BuildHasherDefault::<FoldHasher>::new())?;
-    try_a_few::<Table<EntryKey, BuildHasherDefault<FoldHasher>>, Brand>(
-        &rt,
-        alloc,
-        &mut table,
-        Blank::new(1),
-    )
-}
-
-#[test]
-fn a_searched_table_answers_first_places(rt: HostRuntime) -> Result<(), Fail> {
-    let alloc = rt.alloc();
-    let mut table = SearchedTable::begin(alloc);
-    try_a_few::<SearchedTable<EntryKey>, Brand>(&rt, alloc, &mut table, Blank::new(1))
-}
-
 // The next number of a simple generator.
 fn next_number(state: u32) -> u32 {
     state.wrapping_mul(1_664_525).wrapping_add(1_013_904_223)
@@ -144,15 +132,18 @@ fn try_both<A: Interner<EntryKey>, B: Interner<EntryKey>, L: Ledger>(
 }
 
 #[test]
+fn first_places_are_answered(rt: HostRuntime) -> Result<(), Fail> {
+    let alloc = rt.alloc();
+    let mut hashed = Table::begin(alloc, BuildHasherDefault::<FoldHasher>::new())?;
+    let mut searched = SearchedTable::begin(alloc);
+    try_a_few::<Hashed, Brand>(&rt, alloc, &mut hashed, Blank::new(1))?;
+    try_a_few::<Searched, Brand>(&rt, alloc, &mut searched, Blank::new(1))
+}
+
+#[test]
 fn both_tables_answer_the_same(rt: HostRuntime) -> Result<(), Fail> {
     let alloc = rt.alloc();
     let mut hashed = Table::begin(alloc, BuildHasherDefault::<FoldHasher>::new())?;
     let mut searched = SearchedTable::begin(alloc);
-    try_both::<Table<EntryKey, BuildHasherDefault<FoldHasher>>, SearchedTable<EntryKey>, Brand>(
-        &rt,
-        alloc,
-        &mut hashed,
-        &mut searched,
-        Blank::new(1),
-    )
+    try_both::<Hashed, Searched, Brand>(&rt, alloc, &mut hashed, &mut searched, Blank::new(1))
 }
