@@ -1,0 +1,31 @@
+//! Why a line is no case.
+use pb_wire::NoMemory;
+use row_text::RowFault;
+use std::alloc::AllocError;
+use std::num::ParseIntError;
+use thiserror::Error;
+
+/// Why a line is no case.
+#[derive(Debug, Drop, Error)]
+pub enum CaseFault {
+    #[error("unknown kind")]
+    Kind,
+    #[error("missing data")]
+    Missing,
+    #[error("too much data")]
+    Extra,
+    #[error("place past the end")]
+    Place,
+    #[error("bad number: {0}")]
+    Number(#[from] ParseIntError),
+    #[error(transparent)]
+    Bytes(#[from] RowFault),
+    #[error(transparent)]
+    Memory(#[from(alloc)] AllocError),
+}
+
+impl From<NoMemory> for CaseFault {
+    fn from(_: NoMemory) -> CaseFault {
+        CaseFault::Memory(AllocError)
+    }
+}
