@@ -14,6 +14,7 @@ pub fn answer(alloc: Global, line: &str) -> Result<String, CaseFault> {
         "message" => messages::told(alloc, data),
         "plan" => words::told(alloc, data),
         "error" => errors::told(alloc, data),
+        "memory" => errors::memory_told(alloc),
         "varint" => wire::varint_told(alloc, data),
         "field" => wire::field_told(alloc, data),
         "value" => values::told(alloc, &Payloads::of(alloc, data)?),

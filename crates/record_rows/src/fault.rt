@@ -21,11 +21,7 @@ pub enum CaseFault {
     #[error(transparent)]
     Bytes(#[from] RowFault),
     #[error(transparent)]
-    Memory(#[from(alloc)] AllocError),
-}
-
-impl From<NoMemory> for CaseFault {
-    fn from(_: NoMemory) -> CaseFault {
-        CaseFault::Memory(AllocError)
-    }
+    Alloc(#[from(alloc)] AllocError),
+    #[error(transparent)]
+    NoMemory(#[from] NoMemory),
 }

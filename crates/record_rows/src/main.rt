@@ -1,8 +1,7 @@
 //! Cases for what stands below the tool, a line each: says of each line on the input what comes of it.
 //!
-//! The first word of a line is its kind, the rest are its data. `record` stands for the name of a record, as `mapping` or
-//! `resource-record`; the other kinds are `message`, `value`, `copy`, `equal`, `field`, `varint`, `plan` and `error`. A line that
-//! begins with `#` is a title or a remark, and is copied, as an empty line is. `docs/rows-below.md` has the forms.
+//! The first word of a line is its kind, and the rest are its data. A line that begins with `#` is a title or a remark, and is
+//! copied, as an empty line is. `docs/rows.md` has the kinds.
 #![tactic(auto)]
 
 mod cases;

@@ -6,8 +6,8 @@ use crate::fault::CaseFault;
 use crate::payloads::{Payloads, shown};
 use crate::sample_messages::{Leaf, Tree};
 use dict_rec::{Attr, Dictionary, Function, Line, Link, Location, Mapping, Stack};
-use otlp_msg::{Message, Refusal};
-use pb_wire::{Blob, ReadFault, Wire};
+use otlp_msg::Message;
+use pb_wire::{Blob, Wire};
 use prof_rec::{Profile, Resource, ResourceProfiles, Sample, Scope, ScopeProfiles, ValueType};
 use std::alloc::Global;
 
@@ -48,7 +48,7 @@ fn rewritten<T: Wire>(alloc: Global, payloads: &Payloads) -> Result<String, Case
     let pieces = payloads.pieces(alloc)?;
     match T::read(alloc, &pieces) {
         Ok(record) => written(alloc, &record),
-        Err(fault) => fault_told(alloc, fault),
+        Err(fault) => Ok(format!(in alloc; "{fault}")?),
     }
 }
 
@@ -61,14 +61,4 @@ fn written<T: Wire>(alloc: Global, record: &T) -> Result<String, CaseFault>
     let bytes = shown(alloc, out.as_slice())?;
     let len = record.written_len();
     Ok(format!(in alloc; "{bytes}, {len} bytes")?)
-}
-
-/// The text of a fault.
-pub fn fault_told(alloc: Global, fault: ReadFault) -> Result<String, CaseFault> {
-    let refusal = match fault {
-        ReadFault::Wire(fault) => Refusal::Wire(fault),
-        ReadFault::NoMemory => Refusal::NoMemory,
-    };
-    let text = refusal.text(alloc)?;
-    Ok(String::from_str(alloc, text.as_str())?)
 }

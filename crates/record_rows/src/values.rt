@@ -5,7 +5,6 @@ ghost use Rattle.any_value.specs.Views.{any_view};
 
 use crate::fault::CaseFault;
 use crate::payloads::{Payload, Payloads, shown};
-use crate::records::fault_told;
 use any_value::{
     Value, decode_value, encode_value, is_same_value, put_value, value_len, value_row_len,
 };
@@ -19,7 +18,7 @@ pub fn told(alloc: Global, payloads: &Payloads) -> Result<String, CaseFault> {
     let pieces = payloads.pieces(alloc)?;
     match decode_value(alloc, &pieces, 1) {
         Ok(value) => written(alloc, &value),
-        Err(fault) => fault_told(alloc, fault),
+        Err(fault) => Ok(format!(in alloc; "{fault}")?),
     }
 }
 
@@ -52,7 +51,7 @@ pub fn copy_told(alloc: Global, payloads: &Payloads) -> Result<String, CaseFault
             let copy = value.duplicate(alloc)?;
             compared(alloc, &value, &copy)
         }
-        Err(fault) => fault_told(alloc, fault),
+        Err(fault) => Ok(format!(in alloc; "{fault}")?),
     }
 }
 
@@ -64,7 +63,7 @@ pub fn equal_told(alloc: Global, data: &str) -> Result<String, CaseFault> {
     let values = (value_of(alloc, &one)?, value_of(alloc, &other)?);
     match values {
         (Ok(one), Ok(other)) => compared(alloc, &one, &other),
-        (Err(fault), _) | (_, Err(fault)) => fault_told(alloc, fault),
+        (Err(fault), _) | (_, Err(fault)) => Ok(format!(in alloc; "{fault}")?),
     }
 }
 

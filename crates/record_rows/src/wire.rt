@@ -1,9 +1,8 @@
 //! Single fields and numbers.
 use crate::fault::CaseFault;
 use crate::payloads::{Payload, shown};
-use crate::records::fault_told;
 use pb_wire::{
-    Blob, Field, Payload as FieldPayload, ReadFault, next_field, put_field, put_varint, varint_len,
+    Blob, Field, Payload as FieldPayload, next_field, put_field, put_varint, varint_len,
 };
 use std::alloc::{AllocError, Global};
 
@@ -28,7 +27,7 @@ pub fn field_told(alloc: Global, data: &str) -> Result<String, CaseFault> {
     match next_field(&body.bytes, at, body.base as u64) {
         Ok(None) => Ok(String::from_str(alloc, "end")?),
         Ok(Some((field, next))) => found(alloc, &field, next),
-        Err(fault) => fault_told(alloc, ReadFault::Wire(fault)),
+        Err(fault) => Ok(format!(in alloc; "{fault}")?),
     }
 }
 

@@ -1,16 +1,13 @@
 //! The words of the command line.
 use crate::fault::CaseFault;
-use commands::{ToolPlan, WordRefusal, plan};
+use commands::{ToolPlan, plan};
 use std::alloc::{AllocError, Global};
 
 /// What words ask for, each word that is taken in brackets, or why they are refused.
 pub fn told(alloc: Global, data: &str) -> Result<String, CaseFault> {
     match plan(alloc, &words_of(alloc, data)?) {
         Ok(plan) => Ok(plan_told(alloc, &plan)?),
-        Err(WordRefusal::Fault { place, reason }) => {
-            Ok(format!(in alloc; "{reason:?} at {place}")?)
-        }
-        Err(WordRefusal::NoMemory) => Err(CaseFault::Memory(AllocError)),
+        Err(refusal) => Ok(format!(in alloc; "{refusal}")?),
     }
 }
 
