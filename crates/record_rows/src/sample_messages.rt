@@ -1,15 +1,15 @@
-//! Messages of the tests.
+//! Two messages of our own: one of two rows, and one with a row of each kind.
 ghost use Rattle.std.specs.Prelude.{map, refl};
 ghost use Rattle.schema.specs.Shape.{Number, Fixed, Bytes, Text, One, Many, End, I32, I64, U64};
 
-use crate::*;
+use pb_wire::*;
 use std::alloc::Global;
 
 /// Two rows.
 #[derive(Debug, Drop)]
 pub struct Leaf {
     pub count: i32,
-    pub name: crate::Text,
+    pub name: pb_wire::Text,
 }
 
 impl Wire for Leaf {
@@ -24,7 +24,7 @@ impl Wire for Leaf {
     fn none(alloc: Global) -> Leaf {
         Leaf {
             count: 0,
-            name: crate::Text::begin(alloc),
+            name: pb_wire::Text::begin(alloc),
         }
     }
 
@@ -59,7 +59,7 @@ pub struct Tree {
     pub times: Repeated<u64>,
     pub payloads: Repeated<Blob>,
     pub indices: Repeated<i32>,
-    pub names: Repeated<crate::Text>,
+    pub names: Repeated<pb_wire::Text>,
 }
 
 impl Wire for Tree {
@@ -131,7 +131,7 @@ impl Wire for Tree {
             + text_list_len(12, &self.names)
     }
 
-    #[tactic(auto, using(crate::proofs::Begins::growing))]
+    #[tactic(auto, using(pb_wire::proofs::Begins::growing))]
     fn put_rows(&self, out: &mut Blob) -> Result<(), NoMemory> {
         put_message(out, 1, &self.leaf)?;
         put_messages(out, 2, &self.leaves)?;
