@@ -5,3 +5,7 @@
 mod drafts;
 #[cfg(test)]
 mod key_tables;
+#[cfg(test)]
+mod records;
+#[cfg(test)]
+mod wire;
