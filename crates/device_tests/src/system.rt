@@ -22,11 +22,12 @@ fn disk_files_are_read_back(rt: HostRuntime) -> Result<(), Fail> {
         assert_eq!(rt; seen(&got), want, "{name} at {limit}");
     }
     fs::remove_file(&rt, name)?;
-    assert_eq!(rt; files.faults(), 0);
+    assert_eq!(rt; (files.read_faults(), files.write_faults()), (0, 0));
     assert_eq!(rt; files.read(alloc, "/dev", 9).err(), Some(IoFault::Failed));
+    assert_eq!(rt; (files.read_faults(), files.write_faults()), (1, 0));
     let full = files.write(alloc, "/dev/full", b"four");
     assert_eq!(rt; full, Err(IoFault::Failed));
-    assert_eq!(rt; files.faults(), 2);
+    assert_eq!(rt; (files.read_faults(), files.write_faults()), (1, 1));
     Ok(())
 }
 
