@@ -1,5 +1,6 @@
 //! The payloads of a case: bytes, and where they begin in the file.
-ghost use Rattle.std.specs.Prelude.{◌^◌, ◌<◌, length, IfOk, All};
+ghost use Rattle.std.specs.Prelude.{◌^◌, ◌<◌, length, IfOk};
+ghost use Rattle.schema.specs.Each.{Each};
 ghost use Rattle.record_rows.specs.Short.{IsShort};
 
 use crate::fault::CaseFault;
@@ -31,12 +32,22 @@ impl Payload {
     pub fn piece(&self) -> Piece<'_>
         ensures base { result.base < 2 ^ 32 }
         ensures few { length result.bytes.now < 2 ^ 32 }
-        ensures octets { All (λ b. b < 256) result.bytes.now }
+        ensures octets { Each (λ b. b < 256) result.bytes.now }
     {
-        Piece {
-            bytes: self.bytes.as_slice(),
-            base: self.base as u64,
-        }
+        piece_of(self.base, self.bytes.as_slice())
+    }
+}
+
+// The piece of these bytes.
+fn piece_of(base: u32, bytes: &[u8]) -> Piece<'_>
+    requires { length bytes.now < 2 ^ 32 }
+    ensures base { result.base < 2 ^ 32 }
+    ensures few { length result.bytes.now < 2 ^ 32 }
+    ensures octets { Each (λ b. b < 256) result.bytes.now }
+{
+    Piece {
+        bytes,
+        base: base as u64,
     }
 }
 
