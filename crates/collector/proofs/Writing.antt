@@ -71,8 +71,9 @@ one_at (g ∷ gs) zero f name lt is e = inl (e ∙ ap (λ (x : List ℕ × List 
 one_at (g ∷ gs) (suc i) f name lt is e = inr (one_at gs i f name (omega arith) is e)
 
 -- so where the one at i stops, the stop is of the files
-pub named_at : (fs : Files) (i : ℕ) (f : List ℕ × List ℕ) (stop : Stop) → i < length fs → f ≡ get_or fs i f → IsWriteAt f.0 stop → IsWriteOf (names_of fs) stop
-named_at fs i f (Refused refusal) lt is h = h
-named_at fs i f (Read name) lt is h = h
-named_at fs i f (Write name) lt is h = one_at fs i f name lt is h
-named_at fs i f NoMemory lt is h = tt
+pub named_at : (failed : List ℕ → Type 0) (fs : Files) (i : ℕ) (f : List ℕ × List ℕ) (stop : Stop) → i < length fs → f ≡ get_or fs i f
+    → IsWriteAt f.0 failed stop → IsWriteOf (names_of fs) failed stop
+named_at failed fs i f (Refused refusal) lt is h = h
+named_at failed fs i f (Read name) lt is h = h
+named_at failed fs i f (Write name) lt is (e, h) = (one_at fs i f name lt is e, subst failed (sym e) h)
+named_at failed fs i f NoMemory lt is h = tt

@@ -1,5 +1,5 @@
 -- When a run may stop.
-use Rattle.std.specs.Prelude.{◌≡◌, ◌⊎◌, ℕ, List, [], ◌∷◌, ◌++◌, codes, Option, Result, Err, IsOk, IfOk, IfSome}
+use Rattle.std.specs.Prelude.{◌≡◌, ◌⊎◌, ℕ, List, [], ◌∷◌, ◌++◌, codes, Option, Result, Err, IsOk, IsOkAnd, IfSome}
 use Rattle.outside.specs.Causes.{Rose}
 use Rattle.outside.specs.FileMap.{FileMap}
 use Rattle.commands.specs.Plan.{inputs, targets}
@@ -17,11 +17,9 @@ abbrev pub IsOneOf : List (List ℕ) → List ℕ → Type 0
 IsOneOf [] name = ⊥
 IsOneOf (n ∷ ns) name = (name ≡ n) ⊎ IsOneOf ns name
 
--- the name of a failed write: that of a file that is written, and the count of failed writes rose; or the standard output,
--- and its count rose
-abbrev pub WriteCause : List (List ℕ) → ℕ → ℕ → ℕ → ℕ → List ℕ → Type 0
-WriteCause names writes writes' out out' name =
-    (IsOneOf names name × Rose writes writes') ⊎ ((name ≡ codes "standard output") × Rose out out')
+-- the name of a failed write: that of a file that is written, whose write failed; or the standard output, and its count rose
+abbrev pub WriteCause : List (List ℕ) → (List ℕ → Type 0) → ℕ → ℕ → List ℕ → Type 0
+WriteCause names failed out out' name = (IsOneOf names name × failed name) ⊎ ((name ≡ codes "standard output") × Rose out out')
 
 -- the name is of one of these files, and those before it hold messages that are accepted, where the files are told
 pub record IsNextOf (names : List (List ℕ)) (told : Option FileMap) (name : List ℕ) : Type 0 where
@@ -43,20 +41,20 @@ IsBeyondWords (Words place reason) = ⊥
 IsBeyondWords (File name text) = Unit {0}
 IsBeyondWords (Limit size) = Unit {0}
 
--- while the file of this name is read, a fault comes only where the count of failed reads rose, and names it; the words are
--- not refused, and nothing is written
-abbrev pub FileCause : List ℕ → ℕ → ℕ → Stop → Type 0
-FileCause name reads reads' (Refused refusal) = IsBeyondWords refusal
-FileCause name reads reads' (Read name') = (name' ≡ name) × Rose reads reads'
-FileCause name reads reads' (Write name') = ⊥
-FileCause name reads reads' NoMemory = Unit {0}
+-- while the file of this name is read, a fault comes only where a read of it failed, and names it; the words are not refused,
+-- and no write is named
+abbrev pub FileCause : List ℕ → (List ℕ → Type 0) → Stop → Type 0
+FileCause name failed (Refused refusal) = IsBeyondWords refusal
+FileCause name failed (Read name') = (name' ≡ name) × failed name
+FileCause name failed (Write name') = ⊥
+FileCause name failed NoMemory = Unit {0}
 
 -- the same of files that are read in order: the one that is named comes after files that are accepted
-abbrev pub ReadCause : List (List ℕ) → Option FileMap → ℕ → ℕ → Stop → Type 0
-ReadCause names told reads reads' (Refused refusal) = IsBeyondWords refusal
-ReadCause names told reads reads' (Read name) = IsNextOf names told name × Rose reads reads'
-ReadCause names told reads reads' (Write name) = ⊥
-ReadCause names told reads reads' NoMemory = Unit {0}
+abbrev pub ReadCause : List (List ℕ) → Option FileMap → (List ℕ → Type 0) → Stop → Type 0
+ReadCause names told failed (Refused refusal) = IsBeyondWords refusal
+ReadCause names told failed (Read name) = IsNextOf names told name × failed name
+ReadCause names told failed (Write name) = ⊥
+ReadCause names told failed NoMemory = Unit {0}
 
 -- the stop is of what was read, or want of memory
 abbrev pub IsOfInput : Stop → Type 0
@@ -72,26 +70,26 @@ IsNoFault (Read name) = ⊥
 IsNoFault (Write name) = ⊥
 IsNoFault NoMemory = Unit {0}
 
--- the stop is a failed write under this name, or out of memory
-abbrev pub IsWriteAt : List ℕ → Stop → Type 0
-IsWriteAt name (Refused refusal) = ⊥
-IsWriteAt name (Read name') = ⊥
-IsWriteAt name (Write name') = name' ≡ name
-IsWriteAt name NoMemory = Unit {0}
+-- the stop is a failed write under this name, whose write failed, or out of memory
+abbrev pub IsWriteAt : List ℕ → (List ℕ → Type 0) → Stop → Type 0
+IsWriteAt name failed (Refused refusal) = ⊥
+IsWriteAt name failed (Read name') = ⊥
+IsWriteAt name failed (Write name') = (name' ≡ name) × failed name
+IsWriteAt name failed NoMemory = Unit {0}
 
--- the stop is a failed write under one of these names, or out of memory
-abbrev pub IsWriteOf : List (List ℕ) → Stop → Type 0
-IsWriteOf names (Refused refusal) = ⊥
-IsWriteOf names (Read name) = ⊥
-IsWriteOf names (Write name) = IsOneOf names name
-IsWriteOf names NoMemory = Unit {0}
+-- the same under one of these names
+abbrev pub IsWriteOf : List (List ℕ) → (List ℕ → Type 0) → Stop → Type 0
+IsWriteOf names failed (Refused refusal) = ⊥
+IsWriteOf names failed (Read name) = ⊥
+IsWriteOf names failed (Write name) = IsOneOf names name × failed name
+IsWriteOf names failed NoMemory = Unit {0}
 
 -- where the stop is a failed write, its name has a cause
-abbrev pub HasWriteCause : List (List ℕ) → ℕ → ℕ → ℕ → ℕ → Stop → Type 0
-HasWriteCause names writes writes' out out' (Refused refusal) = Unit {0}
-HasWriteCause names writes writes' out out' (Read name) = Unit {0}
-HasWriteCause names writes writes' out out' (Write name) = WriteCause names writes writes' out out' name
-HasWriteCause names writes writes' out out' NoMemory = Unit {0}
+abbrev pub HasWriteCause : List (List ℕ) → (List ℕ → Type 0) → ℕ → ℕ → Stop → Type 0
+HasWriteCause names failed out out' (Refused refusal) = Unit {0}
+HasWriteCause names failed out out' (Read name) = Unit {0}
+HasWriteCause names failed out out' (Write name) = WriteCause names failed out out' name
+HasWriteCause names failed out out' NoMemory = Unit {0}
 
 -- a refusal of the words is the one that is wanted; under every other the words are accepted
 abbrev pub WordsRefused : Result ToolPlan WordRefusal → ToolRefusal → Type 0
@@ -106,10 +104,10 @@ WordsCause want (Read name) = IsOk want
 WordsCause want (Write name) = IsOk want
 WordsCause want NoMemory = Unit {0}
 
--- a fault comes only where the count of what failed rose, and names what failed: the first two counts are of reads, the next
--- two of writes, and the last two of `out`
-abbrev pub FaultCause : Result ToolPlan WordRefusal → Option FileMap → ℕ → ℕ → ℕ → ℕ → ℕ → ℕ → Stop → Type 0
-FaultCause want told reads reads' writes writes' out out' (Refused refusal) = Unit {0}
-FaultCause want told reads reads' writes writes' out out' (Read name) = IfOk want (λ plan. IsNextOf (inputs plan) told name) × Rose reads reads'
-FaultCause want told reads reads' writes writes' out out' (Write name) = IfOk want (λ plan. WriteCause (targets plan) writes writes' out out' name)
-FaultCause want told reads reads' writes writes' out out' NoMemory = Unit {0}
+-- a fault comes only where a call failed, and names what failed: `reads` and `writes` tell of which file a read or a write
+-- failed, and the two counts are of `out`
+abbrev pub FaultCause : Result ToolPlan WordRefusal → Option FileMap → (List ℕ → Type 0) → (List ℕ → Type 0) → ℕ → ℕ → Stop → Type 0
+FaultCause want told reads writes out out' (Refused refusal) = Unit {0}
+FaultCause want told reads writes out out' (Read name) = IsOkAnd want (λ plan. IsNextOf (inputs plan) told name) × reads name
+FaultCause want told reads writes out out' (Write name) = IsOkAnd want (λ plan. WriteCause (targets plan) writes out out' name)
+FaultCause want told reads writes out out' NoMemory = Unit {0}

@@ -37,8 +37,7 @@ pub record SomeWritten (files : List (List ℕ × List ℕ)) (old new : Option F
   pub done : ℕ
   pub is : new ≡ put_files (take done files) old
 
--- the write of the file of this name failed, and the count of failed writes rose: those before it are written, and its name
--- alone is untold
+-- the count of failed writes rose: the files before the one of this name are written, and this name alone is untold
 pub record FailedAtFile (files : List (List ℕ × List ℕ)) (name : List ℕ) (old new : Option FileMap) (faults faults' : ℕ) : Type 0 where
   pub done : ℕ
   pub untold : FirstUntold name (drop done files) (put_files (take done files) old) new
@@ -66,8 +65,8 @@ WriteFailed output before now name =
     (FailedAtFile output.files name before.told now.told before.write_faults now.write_faults × (now.taken ≡ before.taken))
     ⊎ (name ≡ codes "standard output" × AllFiles output before now × Rose before.out_faults now.out_faults)
 
--- The output may be written in part. Either some of the first files are, the next is untold only where its write failed,
--- and `out` took nothing; or all files are written, and `out` took a prefix of the lines.
+-- The output may be written in part. Either some of the first files are, the next is untold only where the count of failed
+-- writes rose, and `out` took nothing; or all files are written, and `out` took a prefix of the lines.
 abbrev pub Partly : Output → Seen → Seen → Type 0
 Partly output before now =
     ((SomeWritten output.files before.told now.told ⊎ FailedAtSome output.files before.told now.told before.write_faults now.write_faults)

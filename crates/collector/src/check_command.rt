@@ -1,5 +1,6 @@
 //! The command `check`.
 ghost use Rattle.std.specs.Prelude.{◌≡◌, ◌≤◌, [], Ok, IfOk, IfErr, IfSome};
+ghost use Rattle.outside.specs.Causes.{FailedAt};
 ghost use Rattle.otlp_msg.specs.Checked.{value_of};
 ghost use Rattle.collector.specs.CheckAnswer.{check_answer, lines_at, line_at, line_in, message_line};
 ghost use Rattle.collector.specs.Causes.{IsStop, FileCause, ReadCause, IsOfInput, IsNoFault};
@@ -19,7 +20,7 @@ pub fn perform_check<F: Files>(alloc: Global, names: &Texts, files: &mut F) -> R
     ensures stopped { IfErr result (λ stop. IfSome (F.told files.old) (λ m. IsStop (check_answer m names.now) stop)) }
     ensures no_files { IfOk result (λ output. output.files ≡ []) }
     ensures same { F.told files.new ≡ F.told files.old }
-    ensures cause { IfErr result (ReadCause names.now (F.told files.old) (F.read_faults files.old) (F.read_faults files.new)) }
+    ensures cause { IfErr result (ReadCause names.now (F.told files.old) (FailedAt (F.read_failed files.new) (F.read_faults files.old) (F.read_faults files.new))) }
     ensures later { F.read_faults files.old ≤ F.read_faults files.new }
     ensures writes { F.write_faults files.new ≡ F.write_faults files.old }
     ensures sound { F.sound files.old → F.sound files.new × IfErr result IsNoFault }
@@ -38,7 +39,7 @@ fn lines_of_files<F: Files>(alloc: Global, names: &[Text], files: &mut F) -> Res
     ensures ok { IfOk result (λ lines. IfSome (F.told files.old) (λ m. lines_at m names.now ≡ Ok lines)) }
     ensures stopped { IfErr result (λ stop. IfSome (F.told files.old) (λ m. IsStop (lines_at m names.now) stop)) }
     ensures same { F.told files.new ≡ F.told files.old }
-    ensures cause { IfErr result (ReadCause names.now (F.told files.old) (F.read_faults files.old) (F.read_faults files.new)) }
+    ensures cause { IfErr result (ReadCause names.now (F.told files.old) (FailedAt (F.read_failed files.new) (F.read_faults files.old) (F.read_faults files.new))) }
     ensures later { F.read_faults files.old ≤ F.read_faults files.new }
     ensures writes { F.write_faults files.new ≡ F.write_faults files.old }
     ensures sound { F.sound files.old → F.sound files.new × IfErr result IsNoFault }
@@ -62,7 +63,7 @@ fn line_of_file<F: Files>(alloc: Global, name: &Text, files: &mut F) -> Result<T
     ensures ok { IfOk result (λ line. IfSome (F.told files.old) (λ m. line_at m name.now ≡ Ok line)) }
     ensures stopped { IfErr result (λ stop. IfSome (F.told files.old) (λ m. IsStop (line_at m name.now) stop)) }
     ensures same { F.told files.new ≡ F.told files.old }
-    ensures cause { IfErr result (FileCause name.now (F.read_faults files.old) (F.read_faults files.new)) }
+    ensures cause { IfErr result (FileCause name.now (FailedAt (F.read_failed files.new) (F.read_faults files.old) (F.read_faults files.new))) }
     ensures later { F.read_faults files.old ≤ F.read_faults files.new }
     ensures writes { F.write_faults files.new ≡ F.write_faults files.old }
     ensures sound { F.sound files.old → F.sound files.new × IfErr result IsNoFault }

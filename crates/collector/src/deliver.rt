@@ -1,5 +1,6 @@
 //! Writes an output: the files in order, then the lines.
 ghost use Rattle.std.specs.Prelude.{◌≡◌, ◌≤◌, OnOk, IfErr};
+ghost use Rattle.outside.specs.Causes.{FailedAt};
 ghost use Rattle.outside.specs.FileMap.{written};
 ghost use Rattle.outside.specs.Told.{appended};
 ghost use Rattle.collector.specs.Delivery.{put_files, names_of, seen, FileLeft, FilesLeft, OutputLeft};
@@ -22,9 +23,9 @@ pub fn write_output<F: Files, O: Sink>(
     ensures left { IfErr result (OutputLeft output.now
         (seen (F.told files.old) (F.write_faults files.old) (O.taken out.old) (O.faults out.old))
         (seen (F.told files.new) (F.write_faults files.new) (O.taken out.new) (O.faults out.new))) }
-    ensures named { IfErr result (HasWriteCause (names_of output.now.files) (F.write_faults files.old) (F.write_faults files.new) (O.faults out.old) (O.faults out.new)) }
+    ensures named { IfErr result (HasWriteCause (names_of output.now.files) (FailedAt (F.write_failed files.new) (F.write_faults files.old) (F.write_faults files.new)) (O.faults out.old) (O.faults out.new)) }
     ensures later { F.write_faults files.old ≤ F.write_faults files.new }
-    ensures sound { F.sound files.old → O.sound out.old → IfErr result IsNoFault }
+    ensures sound { F.sound files.old → O.sound out.old → F.sound files.new × O.sound out.new × IfErr result IsNoFault }
 {
     if let Err(stop) = write_files(alloc, output.files.as_slice(), files) {
         return Err(stop);
@@ -39,7 +40,7 @@ pub fn write_output<F: Files, O: Sink>(
 // The files in order, up to the first that isn't written.
 fn write_files<F: Files>(alloc: Global, list: &[(Text, Blob)], files: &mut F) -> Result<(), Stop>
     ensures ok { OnOk result (F.told files.new ≡ put_files list.now (F.told files.old)) }
-    ensures named { IfErr result (IsWriteOf (names_of list.now)) }
+    ensures named { IfErr result (IsWriteOf (names_of list.now) (F.write_failed files.new)) }
     ensures left { IfErr result (FilesLeft list.now (F.told files.old) (F.told files.new) (F.write_faults files.old) (F.write_faults files.new)) }
     ensures later { F.write_faults files.old ≤ F.write_faults files.new }
     ensures sound { F.sound files.old → F.sound files.new × IfErr result IsNoFault }
@@ -54,7 +55,7 @@ fn write_files<F: Files>(alloc: Global, list: &[(Text, Blob)], files: &mut F) ->
 
 fn write_one<F: Files>(alloc: Global, name: &Text, bytes: &Blob, files: &mut F) -> Result<(), Stop>
     ensures ok { OnOk result (F.told files.new ≡ written name.now bytes.now (F.told files.old)) }
-    ensures named { IfErr result (IsWriteAt name.now) }
+    ensures named { IfErr result (IsWriteAt name.now (F.write_failed files.new)) }
     ensures left { IfErr result (FileLeft name.now (F.told files.old) (F.told files.new) (F.write_faults files.old) (F.write_faults files.new)) }
     ensures later { F.write_faults files.old ≤ F.write_faults files.new }
     ensures sound { F.sound files.old → F.sound files.new × IfErr result IsNoFault }
@@ -68,7 +69,7 @@ fn write_one<F: Files>(alloc: Global, name: &Text, bytes: &Blob, files: &mut F) 
 
 // The stop at a failed write under this name.
 fn write_stop(alloc: Global, name: &str) -> Stop
-    ensures { IsWriteAt name.now result }
+    ensures { IsWriteAt name.now (λ _. Unit {0}) result }
 {
     match Text::copy_of(alloc, name) {
         Ok(name) => Stop::Write { name },

@@ -1,6 +1,6 @@
 //! The top call of the tool.
 ghost use Rattle.std.specs.Prelude.{◌≡◌, ◌≢◌, ◌<◌, ◌⊎◌, Some, IsOk, IsErr, OnOk, IfOk, IfErr, IfSome, MatchResult};
-ghost use Rattle.outside.specs.Causes.{Rose};
+ghost use Rattle.outside.specs.Causes.{FailedAt, Rose};
 ghost use Rattle.outside.specs.Told.{appended};
 ghost use Rattle.commands.specs.Plan.{planned, texts_of};
 ghost use Rattle.collector.specs.Lines.{IsStatus, words_line};
@@ -30,9 +30,10 @@ fn carry_out<F: Files, O: Sink, M: Seeds>(
     ensures kept { OnOk result (IfSome (F.told files.old) (λ m. IfOk (planned (texts_of words.now)) (λ plan. IfOk (performed plan m) (KeepsMeaning plan m)))) }
     ensures stopped { IfErr result (λ stop. IfSome (F.told files.old) (λ m. IsStop (outcome (texts_of words.now) m) stop)) }
     ensures words { MatchResult result (λ _. IsOk (planned (texts_of words.now))) (WordsCause (planned (texts_of words.now))) }
-    ensures fault { IfErr result (FaultCause (planned (texts_of words.now)) (F.told files.old) (F.read_faults files.old) (F.read_faults files.new)
-        (F.write_faults files.old) (F.write_faults files.new) (O.faults out.old) (O.faults out.new)) }
-    ensures sound { F.sound files.old → O.sound out.old → IfErr result IsNoFault }
+    ensures fault { IfErr result (FaultCause (planned (texts_of words.now)) (F.told files.old)
+        (FailedAt (F.read_failed files.new) (F.read_faults files.old) (F.read_faults files.new))
+        (FailedAt (F.write_failed files.new) (F.write_faults files.old) (F.write_faults files.new)) (O.faults out.old) (O.faults out.new)) }
+    ensures sound { F.sound files.old → O.sound out.old → F.sound files.new × O.sound out.new × IfErr result IsNoFault }
     ensures unchanged { IfErr result (λ stop. Unchanged stop
         (seen (F.told files.old) (F.write_faults files.old) (O.taken out.old) (O.faults out.old))
         (seen (F.told files.new) (F.write_faults files.new) (O.taken out.new) (O.faults out.new))) }
@@ -60,7 +61,7 @@ pub fn run_tool<F: Files, O: Sink, E: Sink, M: Seeds>(
     seeds: &mut M,
 ) -> u8
     // Where the files are told and neither a fault nor want of memory is answered, the status, the files, the text on
-    // `out` and, where no fault of `err` was counted, the line on `err` are those of the answer. After 0 nothing is on `err`.
+    // `out` and, where no fault of `err` was counted, the line on `err` are those of the answer. After 0 nothing is put on `err`.
     ensures status { IsAnswered result → IfSome (F.told files.old) (λ m. result ≡ (answer (texts_of words.now) m).status) }
     ensures files { IsAnswered result → IfSome (F.told files.old) (λ m.
         F.told files.new ≡ put_files (answer (texts_of words.now) m).files (Some m)) }
@@ -88,9 +89,10 @@ pub fn run_tool<F: Files, O: Sink, E: Sink, M: Seeds>(
 
     // What a fault names. A file that was not read is one of the words, after files that are accepted; a file that was not
     // written is the one whose write failed, with the files before it written and its name alone untold.
-    ensures failed_read { result ≡ 6 → FailedRead (planned (texts_of words.now)) (F.told files.old)
+    ensures failed_read { result ≡ 6 → FailedRead (planned (texts_of words.now)) (F.told files.old) (F.read_failed files.new)
         (E.taken err.old) (E.taken err.new) (E.faults err.old) (E.faults err.new) }
     ensures failed_write { result ≡ 8 → FailedWrite (planned (texts_of words.now)) (outcome (texts_of words.now))
+        (FailedAt (F.write_failed files.new) (F.write_faults files.old) (F.write_faults files.new))
         (seen (F.told files.old) (F.write_faults files.old) (O.taken out.old) (O.faults out.old))
         (seen (F.told files.new) (F.write_faults files.new) (O.taken out.new) (O.faults out.new))
         (E.taken err.old) (E.taken err.new) (E.faults err.old) (E.faults err.new) }
@@ -104,7 +106,7 @@ pub fn run_tool<F: Files, O: Sink, E: Sink, M: Seeds>(
         (seen (F.told files.new) (F.write_faults files.new) (O.taken out.new) (O.faults out.new))) }
 
     // Over files and an `out` that do not fail, no fault is answered.
-    ensures sound { F.sound files.old → O.sound out.old → (result ≢ 6) × (result ≢ 8) }
+    ensures sound { F.sound files.old → O.sound out.old → F.sound files.new × O.sound out.new × (result ≢ 6) × (result ≢ 8) }
 
     // With no fault counted, the answer is given, or memory was wanting.
     ensures complete { ¬ (Rose (F.read_faults files.old) (F.read_faults files.new)) →

@@ -9,7 +9,7 @@ returns-in-Err-clause-stopped g c =
 
 pub returns-in-Err-clause-cause : goal.returns-in-Err-clause-cause
 returns-in-Err-clause-cause g c =
-    caused_at _ _ _ _ _ _ _ _ c.loop-name-test.true c.name-item.is c.loop-name.invariant.later (told_accepted _ _ _ c.loop-name.invariant.lines) c.in-Err.ensures.cause
+    caused_at _ _ _ _ _ _ _ _ _ c.loop-name-test.true c.name-item.is c.loop-name.invariant.later (told_accepted _ _ _ c.loop-name.invariant.lines) c.in-Err.ensures.cause
 
 pub loop-name-preserved : goal.loop-name-preserved
 loop-name-preserved g c = record {
