@@ -1,5 +1,5 @@
 //! What comes of a case.
-use crate::row::{Place, Row};
+use crate::row::{Failing, Place, Row};
 use anyhow::{Result, bail};
 use collector::run_tool;
 use outside::{Files, FixedSeeds, Got, IoFault, MemFiles, MemSink};
@@ -9,19 +9,23 @@ use std::alloc::{AllocError, Global};
 
 /// The text of what comes of the case that a line says.
 pub fn outcome(alloc: Global, line: &str) -> Result<String> {
-    let mut row = Row::parse(alloc, line)?;
-    let mut files = files_of(alloc, &row)?;
-    add_named_places(&mut row)?;
+    let Row {
+        commands,
+        mut places,
+        failing,
+    } = Row::parse(alloc, line)?;
+    let mut files = files_of(alloc, &places, &failing.files)?;
+    add_named_places(&commands, &mut places)?;
     let mut text = String::new(alloc);
-    for command in &row.commands {
+    for command in &commands {
         if !text.is_empty() {
             text.push_str("; then ")?;
         }
-        run_command(alloc, command, &row, &mut files, &mut text)?;
+        run_command(alloc, command, &failing, &mut files, &mut text)?;
         add_changes(
             alloc,
-            &mut row.places,
-            row.failing.files.len(),
+            &mut places,
+            failing.files.len(),
             &mut files,
             &mut text,
         )?;
@@ -30,13 +34,13 @@ pub fn outcome(alloc: Global, line: &str) -> Result<String> {
 }
 
 // The files that are there before. A write of each of them comes before the calls that the case numbers.
-fn files_of(alloc: Global, row: &Row<'_>) -> Result<MemFiles> {
+fn files_of(alloc: Global, places: &[Place<'_>], failing: &[u64]) -> Result<MemFiles> {
     let mut numbers = Vec::new(alloc);
-    for number in &row.failing.files {
-        numbers.push(number.saturating_add(row.places.len() as u64))?;
+    for number in failing {
+        numbers.push(number.saturating_add(places.len() as u64))?;
     }
     let mut files = MemFiles::begin(alloc, numbers);
-    for place in &row.places {
+    for place in places {
         let Some(bytes) = &place.seen else { continue };
         if files.write(alloc, place.name, bytes.as_slice()).is_err() {
             bail!("no memory for {}", place.name);
@@ -46,11 +50,14 @@ fn files_of(alloc: Global, row: &Row<'_>) -> Result<MemFiles> {
 }
 
 // A command may write a file under each word that names none yet.
-fn add_named_places(row: &mut Row<'_>) -> Result<(), AllocError> {
-    for command in &row.commands {
+fn add_named_places<'a>(
+    commands: &[&'a str],
+    places: &mut Vec<Place<'a>>,
+) -> Result<(), AllocError> {
+    for command in commands {
         for name in command.split_whitespace() {
-            if row.places.iter().all(|place| place.name != name) {
-                row.places.push(Place { name, seen: None })?;
+            if places.iter().all(|place| place.name != name) {
+                places.push(Place { name, seen: None })?;
             }
         }
     }
@@ -61,7 +68,7 @@ fn add_named_places(row: &mut Row<'_>) -> Result<(), AllocError> {
 fn run_command(
     alloc: Global,
     command: &str,
-    row: &Row<'_>,
+    failing: &Failing,
     files: &mut MemFiles,
     text: &mut String,
 ) -> Result<()> {
@@ -69,8 +76,8 @@ fn run_command(
     for word in command.split_whitespace() {
         words.push(String::from_str(alloc, word)?)?;
     }
-    let mut out = MemSink::begin(alloc, row.failing.out.clone()?);
-    let mut err = MemSink::begin(alloc, row.failing.err.clone()?);
+    let mut out = MemSink::begin(alloc, failing.out.clone()?);
+    let mut err = MemSink::begin(alloc, failing.err.clone()?);
     let status = run_tool(alloc, &words, files, &mut out, &mut err, &mut FixedSeeds);
     text.push_str(format!(in alloc; "{status}")?.as_str())?;
     add_stream(alloc, "out", out.bytes(), text)?;
