@@ -5,4 +5,3 @@ pub mod Elements
 pub mod Appends
 pub mod Counts
 pub mod Fed
-pub mod Short

@@ -10,8 +10,6 @@ mod lengths;
 mod lists;
 mod member;
 mod reading;
-#[cfg(test)]
-mod tests;
 mod value;
 mod writing;
 

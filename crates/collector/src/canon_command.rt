@@ -30,8 +30,9 @@ pub fn perform_canon<F: Files, M: Seeds>(
     ensures rebuilt { IfOk result (λ output. IfSome (F.told files.old) (λ m. IsRebuiltAt m file.now target.now output)) }
     ensures targets { IfOk result (λ output. names_of output.files ≡ target.now ∷ []) }
     ensures same { F.told files.new ≡ F.told files.old }
-    ensures cause { IfErr result (ReadCause (file.now ∷ []) (F.faults files.old) (F.faults files.new)) }
-    ensures later { F.faults files.old ≤ F.faults files.new }
+    ensures cause { IfErr result (ReadCause (file.now ∷ []) (F.told files.old) (F.read_faults files.old) (F.read_faults files.new)) }
+    ensures later { F.read_faults files.old ≤ F.read_faults files.new }
+    ensures writes { F.write_faults files.new ≡ F.write_faults files.old }
     ensures sound { F.sound files.old → F.sound files.new × IfErr result IsNoFault }
 {
     match read_bytes(alloc, file, files) {

@@ -6,8 +6,9 @@ ghost use Rattle.commands.specs.Plan.{planned, texts_of};
 ghost use Rattle.collector.specs.Lines.{IsStatus, words_line};
 ghost use Rattle.collector.specs.Answer.{outcome, performed, answer};
 ghost use Rattle.collector.specs.Rebuilt.{KeepsMeaning};
-ghost use Rattle.collector.specs.Causes.{IsStop, IsNoFault, WordsCause, FaultCause, TookRead, TookWrite};
-ghost use Rattle.collector.specs.Delivery.{seen, put_files, Delivered, FailedDelivery, PartDelivered, LeftAtWrite, Unchanged, Untouched, IsAnswered};
+ghost use Rattle.collector.specs.Causes.{IsStop, IsNoFault, WordsCause, FaultCause};
+ghost use Rattle.collector.specs.Delivery.{seen, put_files, Delivered, PartDelivered, LeftAtWrite, Unchanged, Untouched, IsAnswered};
+ghost use Rattle.collector.specs.Named.{FailedRead, FailedWrite};
 
 use crate::{Stop, perform, tell, write_output};
 use commands::plan;
@@ -29,17 +30,18 @@ fn carry_out<F: Files, O: Sink, M: Seeds>(
     ensures kept { OnOk result (IfSome (F.told files.old) (λ m. IfOk (planned (texts_of words.now)) (λ plan. IfOk (performed plan m) (KeepsMeaning plan m)))) }
     ensures stopped { IfErr result (λ stop. IfSome (F.told files.old) (λ m. IsStop (outcome (texts_of words.now) m) stop)) }
     ensures words { MatchResult result (λ _. IsOk (planned (texts_of words.now))) (WordsCause (planned (texts_of words.now))) }
-    ensures fault { IfErr result (FaultCause (planned (texts_of words.now)) (F.faults files.old) (F.faults files.new) (O.faults out.old) (O.faults out.new)) }
+    ensures fault { IfErr result (FaultCause (planned (texts_of words.now)) (F.told files.old) (F.read_faults files.old) (F.read_faults files.new)
+        (F.write_faults files.old) (F.write_faults files.new) (O.faults out.old) (O.faults out.new)) }
     ensures sound { F.sound files.old → O.sound out.old → IfErr result IsNoFault }
     ensures unchanged { IfErr result (λ stop. Unchanged stop
-        (seen (F.told files.old) (F.faults files.old) (O.taken out.old) (O.faults out.old))
-        (seen (F.told files.new) (F.faults files.new) (O.taken out.new) (O.faults out.new))) }
+        (seen (F.told files.old) (F.write_faults files.old) (O.taken out.old) (O.faults out.old))
+        (seen (F.told files.new) (F.write_faults files.new) (O.taken out.new) (O.faults out.new))) }
     ensures failed { IfErr result (λ stop. IfSome (F.told files.old) (λ m. LeftAtWrite (outcome (texts_of words.now) m)
-        (seen (F.told files.old) (F.faults files.old) (O.taken out.old) (O.faults out.old))
-        (seen (F.told files.new) (F.faults files.new) (O.taken out.new) (O.faults out.new)) stop)) }
+        (seen (F.told files.old) (F.write_faults files.old) (O.taken out.old) (O.faults out.old))
+        (seen (F.told files.new) (F.write_faults files.new) (O.taken out.new) (O.faults out.new)) stop)) }
     ensures part { IfErr result (λ _. IfSome (F.told files.old) (λ m. PartDelivered (outcome (texts_of words.now) m)
-        (seen (F.told files.old) (F.faults files.old) (O.taken out.old) (O.faults out.old))
-        (seen (F.told files.new) (F.faults files.new) (O.taken out.new) (O.faults out.new)))) }
+        (seen (F.told files.old) (F.write_faults files.old) (O.taken out.old) (O.faults out.old))
+        (seen (F.told files.new) (F.write_faults files.new) (O.taken out.new) (O.faults out.new)))) }
 {
     let plan = plan(alloc, words)?;
     match perform(alloc, &plan, files, seeds) {
@@ -81,31 +83,33 @@ pub fn run_tool<F: Files, O: Sink, E: Sink, M: Seeds>(
         E.taken err.new ≡ appended (E.taken err.old) (words_line (planned (texts_of words.now))) }
 
     // A fault is answered only where a count rose. Its line names a file that the words name, or the standard output.
-    ensures read_fault { result ≡ 6 → Rose (F.faults files.old) (F.faults files.new) }
-    ensures write_fault { result ≡ 8 → Rose (F.faults files.old) (F.faults files.new) ⊎ Rose (O.faults out.old) (O.faults out.new) }
-    ensures read_line { result ≡ 6 → ¬ (Rose (E.faults err.old) (E.faults err.new)) →
-        TookRead (planned (texts_of words.now)) (E.taken err.old) (E.taken err.new) }
-    ensures write_line { result ≡ 8 → ¬ (Rose (E.faults err.old) (E.faults err.new)) →
-        TookWrite (planned (texts_of words.now)) (F.faults files.old) (F.faults files.new) (O.faults out.old) (O.faults out.new)
-        (E.taken err.old) (E.taken err.new) }
+    ensures read_fault { result ≡ 6 → Rose (F.read_faults files.old) (F.read_faults files.new) }
+    ensures write_fault { result ≡ 8 → Rose (F.write_faults files.old) (F.write_faults files.new) ⊎ Rose (O.faults out.old) (O.faults out.new) }
+
+    // What a fault names. A file that was not read is one of the words, after files that are accepted; a file that was not
+    // written is the one whose write failed, with the files before it written and its name alone untold.
+    ensures failed_read { result ≡ 6 → FailedRead (planned (texts_of words.now)) (F.told files.old)
+        (E.taken err.old) (E.taken err.new) (E.faults err.old) (E.faults err.new) }
+    ensures failed_write { result ≡ 8 → FailedWrite (planned (texts_of words.now)) (outcome (texts_of words.now))
+        (seen (F.told files.old) (F.write_faults files.old) (O.taken out.old) (O.faults out.old))
+        (seen (F.told files.new) (F.write_faults files.new) (O.taken out.new) (O.faults out.new))
+        (E.taken err.old) (E.taken err.new) (E.faults err.old) (E.faults err.new) }
 
     // What stays where nothing, or not all, was written.
     ensures unchanged { 0 < result → result < 7 → Untouched
-        (seen (F.told files.old) (F.faults files.old) (O.taken out.old) (O.faults out.old))
-        (seen (F.told files.new) (F.faults files.new) (O.taken out.new) (O.faults out.new)) }
+        (seen (F.told files.old) (F.write_faults files.old) (O.taken out.old) (O.faults out.old))
+        (seen (F.told files.new) (F.write_faults files.new) (O.taken out.new) (O.faults out.new)) }
     ensures part { 6 < result → IfSome (F.told files.old) (λ m. PartDelivered (outcome (texts_of words.now) m)
-        (seen (F.told files.old) (F.faults files.old) (O.taken out.old) (O.faults out.old))
-        (seen (F.told files.new) (F.faults files.new) (O.taken out.new) (O.faults out.new))) }
-    ensures failed_write { result ≡ 8 → IfSome (F.told files.old) (λ m. FailedDelivery (outcome (texts_of words.now) m)
-        (seen (F.told files.old) (F.faults files.old) (O.taken out.old) (O.faults out.old))
-        (seen (F.told files.new) (F.faults files.new) (O.taken out.new) (O.faults out.new))) }
+        (seen (F.told files.old) (F.write_faults files.old) (O.taken out.old) (O.faults out.old))
+        (seen (F.told files.new) (F.write_faults files.new) (O.taken out.new) (O.faults out.new))) }
 
     // Over files and an `out` that do not fail, no fault is answered.
     ensures sound { F.sound files.old → O.sound out.old → (result ≢ 6) × (result ≢ 8) }
 
     // With no fault counted, the answer is given, or memory was wanting.
-    ensures complete { ¬ (Rose (F.faults files.old) (F.faults files.new)) → ¬ (Rose (O.faults out.old) (O.faults out.new)) →
-        result ≢ 7 → IfSome (F.told files.old) (λ m. result ≡ (answer (texts_of words.now) m).status) }
+    ensures complete { ¬ (Rose (F.read_faults files.old) (F.read_faults files.new)) →
+        ¬ (Rose (F.write_faults files.old) (F.write_faults files.new)) → ¬ (Rose (O.faults out.old) (O.faults out.new)) → result ≢ 7 →
+        IfSome (F.told files.old) (λ m. result ≡ (answer (texts_of words.now) m).status) }
 {
     match carry_out(alloc, words, files, out, seeds) {
         Ok(()) => DONE,

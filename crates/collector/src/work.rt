@@ -25,8 +25,9 @@ pub fn perform<F: Files, M: Seeds>(
     ensures kept { IfOk result (λ output. IfSome (F.told files.old) (λ m. KeepsMeaning plan.now m output)) }
     ensures targets { IfOk result (λ output. names_of output.files ≡ targets plan.now) }
     ensures same { F.told files.new ≡ F.told files.old }
-    ensures cause { IfErr result (ReadCause (inputs plan.now) (F.faults files.old) (F.faults files.new)) }
-    ensures later { F.faults files.old ≤ F.faults files.new }
+    ensures cause { IfErr result (ReadCause (inputs plan.now) (F.told files.old) (F.read_faults files.old) (F.read_faults files.new)) }
+    ensures later { F.read_faults files.old ≤ F.read_faults files.new }
+    ensures writes { F.write_faults files.new ≡ F.write_faults files.old }
     ensures sound { F.sound files.old → F.sound files.new × IfErr result IsNoFault }
 {
     match plan {

@@ -6,6 +6,3 @@ mod words;
 
 pub use texts::Texts;
 pub use words::{ToolPlan, WordReason, WordRefusal, plan};
-
-#[cfg(test)]
-mod tests;

@@ -5,6 +5,7 @@ ghost use Rattle.commands.specs.Plan.{planned, some_words, two_words, texts_of, 
 use crate::Texts;
 use pb_wire::{NoMemory, Text};
 use std::alloc::Global;
+use thiserror::Error;
 
 /// What the words ask for.
 #[derive(Drop)]
@@ -29,10 +30,12 @@ pub enum WordReason {
 }
 
 /// Why the words ask for nothing.
-#[derive(Clone, Copy, Debug, PartialEq, Eq)]
+#[derive(Clone, Copy, Debug, PartialEq, Eq, Error)]
 pub enum WordRefusal {
     /// The place is that of the word, counted from 0; at `MissingWord` it is the number of words.
+    #[error("word {place}: {reason:?}")]
     Fault { place: u32, reason: WordReason },
+    #[error("no memory")]
     NoMemory,
 }
 

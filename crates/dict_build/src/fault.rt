@@ -1,11 +1,14 @@
 //! Why no message is built.
 use pb_wire::NoMemory;
+use thiserror::Error;
 
 /// Why no message is built.
-#[derive(Clone, Copy, Debug, PartialEq, Eq)]
+#[derive(Clone, Copy, Debug, PartialEq, Eq, Error)]
 pub enum BuildFault {
     /// There would be more bytes than a message may have; `size` is their number.
+    #[error("output limit: {size} bytes")]
     OutputLimit { size: u64 },
+    #[error("no memory")]
     NoMemory,
 }
 

@@ -10,8 +10,6 @@ mod link;
 mod location;
 mod mapping;
 mod stack;
-#[cfg(test)]
-mod tests;
 
 pub use attribute::Attr;
 pub use dictionary::{Dictionary, TableKind, decode_dictionary, dictionary_len, encode_dictionary};

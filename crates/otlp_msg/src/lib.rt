@@ -3,8 +3,6 @@
 
 mod checked;
 mod counts;
-#[cfg(test)]
-mod hostile_tests;
 mod indexed;
 mod indexed_entries;
 mod indexed_records;
@@ -14,8 +12,6 @@ mod path;
 mod reading;
 mod refusal;
 mod table_lengths;
-#[cfg(test)]
-mod tests;
 mod zero_entries;
 
 pub use checked::Checked;

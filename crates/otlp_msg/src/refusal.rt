@@ -7,27 +7,34 @@ use crate::{Holder, Path, ProfilePos};
 use dict_rec::TableKind;
 use pb_wire::{NoMemory, Reason, Text, WireFault};
 use std::alloc::Global;
+use thiserror::Error;
 
-/// Why a file is no message. Places are in bytes from the beginning of the file.
-#[derive(Clone, Copy, Debug, PartialEq, Eq)]
+/// Why a file is no message. Places are in bytes from the beginning of the file. `text` is what the tool prints; the display
+/// is for logs.
+#[derive(Clone, Copy, Debug, PartialEq, Eq, Error)]
 pub enum Refusal {
     /// There are more bytes than a message may have; `len` is their number, or a smaller one above the limit.
+    #[error("size: more than 33554432 bytes")]
     Size {
         len: u64,
     },
     /// The bytes break the wire format.
+    #[error("wire fault {0}")]
     Wire(WireFault),
     /// The first entry of a table isn't the zero value.
+    #[error("zero entry of {table:?} table is not zero")]
     ZeroEntry {
         table: TableKind,
     },
     /// An index is below 0 or at least the length of its table, which is 1 where the table is empty.
+    #[error("dangling {table:?} index {index} of {len} in {path:?}")]
     Dangling {
         table: TableKind,
         index: i32,
         len: u64,
         path: Path,
     },
+    #[error("no memory")]
     NoMemory,
 }
 

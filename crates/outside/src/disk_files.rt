@@ -1,7 +1,8 @@
 //! The files of the system.
-ghost use Rattle.std.specs.Prelude.{◌≡◌, None, IfOk};
+ghost use Rattle.std.specs.Prelude.{◌≡◌, ◌+◌, None, IfOk, refl};
 ghost use Rattle.outside.specs.FileMap.{IsWithin};
 
+use crate::fault::count_failure;
 use crate::{Files, Got, IoFault};
 use pb_wire::Blob;
 use std::alloc::Global;
@@ -9,33 +10,52 @@ use std::fs::File;
 use std::io::{ErrorKind, Read};
 use std::{fs, io};
 
-/// Real files, named by their paths. It tells its count of faults and no more.
+/// Real files, named by their paths. It tells its counts of faults and no more.
 #[derive(Drop)]
 pub struct DiskFiles<'a, R: std::rt::Files> {
     rt: &'a R,
-    faults: u64,
+    read_faults: u64,
+    write_faults: u64,
 }
 
 impl<'a, R: std::rt::Files> DiskFiles<'a, R> {
     /// No call yet.
     pub fn begin(rt: &'a R) -> DiskFiles<'a, R>
-        ensures { ⟦<DiskFiles<'a, R> as Files>⟧.faults result ≡ 0 }
+        ensures read_faults { ⟦<DiskFiles<'a, R> as Files>⟧.read_faults result ≡ 0 }
+        ensures write_faults { ⟦<DiskFiles<'a, R> as Files>⟧.write_faults result ≡ 0 }
     {
-        DiskFiles { rt, faults: 0 }
+        DiskFiles {
+            rt,
+            read_faults: 0,
+            write_faults: 0,
+        }
     }
 
-    /// How many calls have failed.
-    pub fn faults(&self) -> u64
-        ensures { result ≡ ⟦<DiskFiles<'a, R> as Files>⟧.faults self.now }
+    /// How many reads have failed.
+    pub fn read_faults(&self) -> u64
+        ensures { result ≡ ⟦<DiskFiles<'a, R> as Files>⟧.read_faults self.now }
     {
-        self.faults
+        self.read_faults
+    }
+
+    /// How many writes have failed.
+    pub fn write_faults(&self) -> u64
+        ensures { result ≡ ⟦<DiskFiles<'a, R> as Files>⟧.write_faults self.now }
+    {
+        self.write_faults
     }
 }
 
 impl<'a, R: std::rt::Files> Files for DiskFiles<'a, R> {
     ghost told = { λ _. None };
 
-    ghost faults = { λ f. f.faults };
+    ghost read_faults = { λ f. f.read_faults };
+
+    ghost write_faults = { λ f. f.write_faults };
+
+    ghost faults = { λ f. f.read_faults + f.write_faults };
+
+    ghost summed = { λ _. refl };
 
     ghost sound = { λ _. ⊥ };
 
@@ -44,7 +64,7 @@ impl<'a, R: std::rt::Files> Files for DiskFiles<'a, R> {
             Ok(got) => Ok(got),
             Err(error) if error.kind() == ErrorKind::OutOfMemory => Err(IoFault::NoMemory),
             Err(_) => {
-                self.faults = self.faults.saturating_add(1);
+                count_failure(&mut self.read_faults);
                 Err(IoFault::Failed)
             }
         }
@@ -54,7 +74,7 @@ impl<'a, R: std::rt::Files> Files for DiskFiles<'a, R> {
         match fs::write(self.rt, name, bytes) {
             Ok(()) => Ok(()),
             Err(_) => {
-                self.faults = self.faults.saturating_add(1);
+                count_failure(&mut self.write_faults);
                 Err(IoFault::Failed)
             }
         }

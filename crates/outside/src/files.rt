@@ -1,5 +1,5 @@
 //! Named files.
-ghost use Rattle.std.specs.Prelude.{◌≡◌, ℕ, Option, None, IfOk, IfSome, OnOk, IsErrOf};
+ghost use Rattle.std.specs.Prelude.{◌≡◌, ◌+◌, ℕ, Option, None, IfOk, IfSome, OnOk, IsErrOf};
 ghost use Rattle.outside.specs.Causes.{Counted, NeverFails};
 ghost use Rattle.outside.specs.FileMap.{FileMap, got_of, IsWithin, written, SameBut};
 ghost use Rattle.outside.specs.Plan.{Plan, FollowsPlan};
@@ -24,8 +24,17 @@ pub trait Files {
     /// The map of names to bytes, where it is told.
     ghost told: { Self → Option FileMap };
 
-    /// How many calls have failed.
+    /// How many reads have failed.
+    ghost read_faults: { Self → ℕ };
+
+    /// How many writes have failed.
+    ghost write_faults: { Self → ℕ };
+
+    /// How many calls have failed: reads and writes together.
     ghost faults: { Self → ℕ };
+
+    /// That is their sum.
+    ghost summed: { (f : Self) → faults f ≡ read_faults f + write_faults f };
 
     /// From here on no call fails.
     ghost sound: { Self → Type 0 };
@@ -38,7 +47,8 @@ pub trait Files {
         ensures got { IfOk result (λ got. IfSome (told self.old) (λ m. got ≡ got_of m name.now limit)) }
         ensures within { IfOk result (IsWithin limit) }
         ensures same { told self.new ≡ told self.old }
-        ensures cause { Counted (faults self.old) (faults self.new) result }
+        ensures cause { Counted (read_faults self.old) (read_faults self.new) result }
+        ensures writes { write_faults self.new ≡ write_faults self.old }
         ensures sound { sound self.old → sound self.new × NeverFails result }
         ensures planned { FollowsPlan (plan self.old) (plan self.new) (IsErrOf result IoFault.Failed) };
 
@@ -48,7 +58,8 @@ pub trait Files {
         ensures ok { OnOk result (told self.new ≡ written name.now bytes.now (told self.old)) }
         ensures failed { IsErrOf result IoFault.Failed → SameBut name.now (told self.old) (told self.new) }
         ensures no_memory { IsErrOf result IoFault.NoMemory → told self.new ≡ told self.old }
-        ensures cause { Counted (faults self.old) (faults self.new) result }
+        ensures cause { Counted (write_faults self.old) (write_faults self.new) result }
+        ensures reads { read_faults self.new ≡ read_faults self.old }
         ensures sound { sound self.old → sound self.new × NeverFails result }
         ensures planned { FollowsPlan (plan self.old) (plan self.new) (IsErrOf result IoFault.Failed) };
 }

@@ -1,11 +1,12 @@
 //! Files in memory.
-ghost use Rattle.std.specs.Prelude.{◌≡◌, [], Some, IfOk, IfErr};
+ghost use Rattle.std.specs.Prelude.{◌≡◌, ◌+◌, [], Some, IfOk, IfErr, refl};
 ghost use Rattle.outside.specs.FileMap.{found};
 ghost use Rattle.std.specs.FinMap as map;
 ghost use Rattle.std.specs.Option.{option_copied};
 ghost use Rattle.std.specs.Ordering.{nat_cmp};
 ghost use Rattle.std.specs.Cmp.Lexicographic.{slice_cmp};
 
+use crate::fault::count_failure;
 use crate::{Failures, Files, Got, IoFault};
 use pb_wire::{Blob, Text};
 use std::alloc::Global;
@@ -16,19 +17,24 @@ use std::collections::VecDeque;
 pub struct MemFiles {
     writes: VecDeque<(Text, Blob)>,
     failures: Failures,
+    read_faults: u64,
+    write_faults: u64,
 }
 
 impl MemFiles {
     /// No files. The calls with these numbers, counted from 0 over reads and writes together, are to fail.
     pub fn begin(alloc: Global, failing: Vec<u64>) -> MemFiles
         ensures told { ⟦<MemFiles as Files>⟧.told result ≡ Some map.empty }
-        ensures faults { ⟦<MemFiles as Files>⟧.faults result ≡ 0 }
+        ensures read_faults { ⟦<MemFiles as Files>⟧.read_faults result ≡ 0 }
+        ensures write_faults { ⟦<MemFiles as Files>⟧.write_faults result ≡ 0 }
         ensures plan { ⟦<MemFiles as Files>⟧.plan result ≡ Some (failing.items, 0) }
         ensures sound { failing.items ≡ [] → ⟦<MemFiles as Files>⟧.sound result }
     {
         MemFiles {
             writes: VecDeque::new(alloc),
             failures: Failures::begin(failing),
+            read_faults: 0,
+            write_faults: 0,
         }
     }
 }
@@ -36,7 +42,13 @@ impl MemFiles {
 impl Files for MemFiles {
     ghost told = { λ f. Some (map.from_entries f.writes.items) };
 
-    ghost faults = { λ f. f.failures.faults };
+    ghost read_faults = { λ f. f.read_faults };
+
+    ghost write_faults = { λ f. f.write_faults };
+
+    ghost faults = { λ f. f.read_faults + f.write_faults };
+
+    ghost summed = { λ _. refl };
 
     ghost sound = { λ f. f.failures.numbers.items ≡ [] };
 
@@ -44,6 +56,7 @@ impl Files for MemFiles {
 
     fn read(&mut self, alloc: Global, name: &str, limit: u64) -> Result<Got, IoFault> {
         if self.failures.strikes() {
+            count_failure(&mut self.read_faults);
             return Err(IoFault::Failed);
         }
         match newest(&self.writes, name) {
@@ -54,6 +67,7 @@ impl Files for MemFiles {
 
     fn write(&mut self, alloc: Global, name: &str, bytes: &[u8]) -> Result<(), IoFault> {
         if self.failures.strikes() {
+            count_failure(&mut self.write_faults);
             return Err(IoFault::Failed);
         }
         let name = Text::copy_of(alloc, name)?;

@@ -1,6 +1,7 @@
 //! A sink in memory.
 ghost use Rattle.std.specs.Prelude.{◌≡◌, Some, []};
 
+use crate::fault::count_failure;
 use crate::{Failures, IoFault, Sink};
 use std::alloc::Global;
 
@@ -9,6 +10,7 @@ use std::alloc::Global;
 pub struct MemSink {
     bytes: Vec<u8>,
     failures: Failures,
+    faults: u64,
 }
 
 impl MemSink {
@@ -22,6 +24,7 @@ impl MemSink {
         MemSink {
             bytes: Vec::new(alloc),
             failures: Failures::begin(failing),
+            faults: 0,
         }
     }
 
@@ -36,7 +39,7 @@ impl MemSink {
 impl Sink for MemSink {
     ghost taken = { λ s. Some s.bytes.items };
 
-    ghost faults = { λ s. s.failures.faults };
+    ghost faults = { λ s. s.faults };
 
     ghost sound = { λ s. s.failures.numbers.items ≡ [] };
 
@@ -44,6 +47,7 @@ impl Sink for MemSink {
 
     fn write(&mut self, piece: &[u8]) -> Result<usize, IoFault> {
         if self.failures.strikes() {
+            count_failure(&mut self.faults);
             return Err(IoFault::Failed);
         }
         self.bytes.extend_from_slice(piece)?;

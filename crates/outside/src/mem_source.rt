@@ -1,6 +1,7 @@
 //! A source in memory.
 ghost use Rattle.std.specs.Prelude.{◌≡◌, ◌≤◌, Some, [], drop, take, length, min, vec_len};
 
+use crate::fault::count_failure;
 use crate::{Failed, Failures, Source};
 
 /// Gives the bytes that it is made with, in order.
@@ -10,6 +11,7 @@ pub struct MemSource {
     // How many of the bytes have been read.
     at: usize,
     failures: Failures,
+    faults: u64,
     ghost in_range: { at ≤ vec_len bytes },
 }
 
@@ -25,6 +27,7 @@ impl MemSource {
             bytes,
             at: 0,
             failures: Failures::begin(failing),
+            faults: 0,
         }
     }
 }
@@ -32,7 +35,7 @@ impl MemSource {
 impl Source for MemSource {
     ghost left = { λ s. Some (drop s.at s.bytes.items) };
 
-    ghost faults = { λ s. s.failures.faults };
+    ghost faults = { λ s. s.faults };
 
     ghost sound = { λ s. s.failures.numbers.items ≡ [] };
 
@@ -40,6 +43,7 @@ impl Source for MemSource {
 
     fn read(&mut self, into: &mut [u8]) -> Result<usize, Failed> {
         if self.failures.strikes() {
+            count_failure(&mut self.faults);
             return Err(Failed);
         }
         let (_, left) = self.bytes.split_at(self.at);

@@ -1,6 +1,7 @@
 //! A source over any reader of std.
 ghost use Rattle.std.specs.Prelude.{◌≡◌, None};
 
+use crate::fault::count_failure;
 use crate::{Failed, Source};
 use std::io::Read;
 
@@ -38,7 +39,7 @@ impl<R: Read> Source for ReaderSource<R> {
         match self.inner.read(into) {
             Ok(count) => Ok(count),
             Err(_) => {
-                self.faults = self.faults.saturating_add(1);
+                count_failure(&mut self.faults);
                 Err(Failed)
             }
         }

@@ -1,6 +1,7 @@
 //! A sink over any writer of std.
 ghost use Rattle.std.specs.Prelude.{◌≡◌, None};
 
+use crate::fault::count_failure;
 use crate::{IoFault, Sink};
 use std::io::{ErrorKind, Write};
 
@@ -42,7 +43,7 @@ impl<W: Write> Sink for WriterSink<W> {
             Ok(count) if count > 0 => Ok(count),
             Err(error) if error.kind() == ErrorKind::OutOfMemory => Err(IoFault::NoMemory),
             _ => {
-                self.faults = self.faults.saturating_add(1);
+                count_failure(&mut self.faults);
                 Err(IoFault::Failed)
             }
         }

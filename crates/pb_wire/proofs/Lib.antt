@@ -4,4 +4,3 @@ pub mod Occurrences
 pub mod Eights
 pub mod Begins
 pub mod Rows
-pub mod Examples

@@ -4,6 +4,7 @@ ghost use Rattle.pb_wire.specs.declared.fault.ReadFault.TheVariants as read_faul
 
 use crate::NoMemory;
 use std::alloc::{AllocError, AllocFailed};
+use thiserror::Error;
 
 /// What is wrong with the bytes.
 #[derive(Clone, Copy, Debug, PartialEq, Eq)]
@@ -25,16 +26,19 @@ pub enum Reason {
 }
 
 /// A fault of the wire format: the place of the tag, in bytes from the beginning of the file, and the reason.
-#[derive(Clone, Copy, Debug, PartialEq, Eq)]
+#[derive(Clone, Copy, Debug, PartialEq, Eq, Error)]
+#[error("{reason:?} at {place}")]
 pub struct WireFault {
     pub place: u64,
     pub reason: Reason,
 }
 
 /// Why a message could not be read.
-#[derive(Clone, Copy, Debug, PartialEq, Eq)]
+#[derive(Clone, Copy, Debug, PartialEq, Eq, Error)]
 pub enum ReadFault {
+    #[error("wire fault {0}")]
     Wire(WireFault),
+    #[error("no memory")]
     NoMemory,
 }
 

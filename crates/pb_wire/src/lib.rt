@@ -8,20 +8,12 @@ mod laws;
 mod lengths;
 mod memory;
 mod next;
-#[cfg(test)]
-mod next_tests;
 mod number;
 mod pieces;
 mod put;
 mod put_rows;
-#[cfg(test)]
-mod put_tests;
 mod repeated;
 mod take;
-#[cfg(test)]
-mod take_tests;
-#[cfg(test)]
-mod test_messages;
 mod text;
 mod wire;
 

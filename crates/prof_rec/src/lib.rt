@@ -8,8 +8,6 @@ mod resource_profiles;
 mod sample;
 mod scope;
 mod scope_profiles;
-#[cfg(test)]
-mod tests;
 mod value_type;
 
 pub use profile::Profile;

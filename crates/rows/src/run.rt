@@ -42,9 +42,7 @@ fn files_of(alloc: Global, places: &[Place<'_>], failing: &[u64]) -> Result<MemF
     let mut files = MemFiles::begin(alloc, numbers);
     for place in places {
         let Some(bytes) = &place.seen else { continue };
-        if files.write(alloc, place.name, bytes.as_slice()).is_err() {
-            bail!("no memory for {}", place.name);
-        }
+        files.write(alloc, place.name, bytes.as_slice())?;
     }
     Ok(files)
 }
@@ -124,7 +122,7 @@ fn look(alloc: Global, name: &str, failures: usize, files: &mut MemFiles) -> Res
             Ok(Got::Whole(bytes)) => return Ok(Some(bytes)),
             Ok(_) => return Ok(None),
             Err(IoFault::Failed) => {}
-            Err(IoFault::NoMemory) => bail!("no memory for {name}"),
+            Err(fault) => return Err(fault.into()),
         }
     }
     bail!("no look at {name}")

@@ -1,0 +1,5 @@
+use Rattle.record_rows.proofs.Written.{record_short}
+use Rattle.record_rows.proofs.records.rewritten.Goals as goal
+
+pub written-requires : goal.written-requires
+written-requires g c = record_short g.T.Wire.shape c.in_ok-pieces.pieces (g.T.Wire.view c.in-Ok.record) c.in_ok-pieces.ensures c.in-Ok.ensures

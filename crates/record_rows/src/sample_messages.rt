@@ -1,0 +1,148 @@
+//! Two messages of our own: one of two rows, and one with a row of each kind.
+ghost use Rattle.std.specs.Prelude.{map, refl};
+ghost use Rattle.schema.specs.Shape.{Number, Fixed, Bytes, Text, One, Many, End, I32, I64, U64};
+
+use pb_wire::*;
+use std::alloc::Global;
+
+/// Two rows.
+#[derive(Debug, Drop)]
+pub struct Leaf {
+    pub count: i32,
+    pub name: pb_wire::Text,
+}
+
+impl Wire for Leaf {
+    ghost shape = { One 1 (Number I32) (One 2 Text End) };
+
+    ghost view = { λ m. (m.count, (m.name, tt)) };
+
+    ghost message = { tt };
+
+    ghost lawful = { refl };
+
+    fn none(alloc: Global) -> Leaf {
+        Leaf {
+            count: 0,
+            name: pb_wire::Text::begin(alloc),
+        }
+    }
+
+    fn take(&mut self, alloc: Global, field: &Field<'_>) -> Result<(), ReadFault> {
+        match field.number {
+            1 => take_number(&mut self.count, field),
+            2 => take_text(&mut self.name, alloc, field),
+            _ => Ok(()),
+        }
+    }
+
+    fn rows_len(&self) -> u64 {
+        number_len(1, self.count) + text_len(2, &self.name)
+    }
+
+    fn put_rows(&self, out: &mut Blob) -> Result<(), NoMemory> {
+        put_number(out, 1, self.count)?;
+        put_text(out, 2, &self.name)?;
+        Ok(())
+    }
+}
+
+/// A row of each kind.
+#[derive(Debug, Drop)]
+pub struct Tree {
+    pub leaf: Leaf,
+    pub leaves: Repeated<Leaf>,
+    pub time: u64,
+    pub duration: u64,
+    pub period: i64,
+    pub id: Blob,
+    pub times: Repeated<u64>,
+    pub payloads: Repeated<Blob>,
+    pub indices: Repeated<i32>,
+    pub names: Repeated<pb_wire::Text>,
+}
+
+impl Wire for Tree {
+    ghost shape = { One 1 (One 1 (Number I32) (One 2 Text End)) (Many 2 (One 1 (Number I32) (One 2 Text End)) (One 3 Fixed (One 4 (Number U64) (One 6 (Number I64)
+        (One 7 Bytes (Many 8 Fixed (Many 10 Bytes (Many 11 (Number I32) (Many 12 Text End))))))))) };
+
+    ghost view = { λ m. (
+      (m.leaf.count, (m.leaf.name, tt)),
+      (
+        map (λ l. (l.count, (l.name, tt))) m.leaves,
+        (
+          m.time,
+          (
+            m.duration,
+            (
+              m.period,
+              (m.id, (m.times, (m.payloads, (map (λ x. x) m.indices, (m.names, tt))))),
+            ),
+          ),
+        ),
+      ),
+    ) };
+
+    ghost message = { tt };
+
+    ghost lawful = { refl };
+
+    fn none(alloc: Global) -> Tree {
+        Tree {
+            leaf: Leaf::none(alloc),
+            leaves: Repeated::begin(alloc),
+            time: 0,
+            duration: 0,
+            period: 0,
+            id: Blob::begin(alloc),
+            times: Repeated::begin(alloc),
+            payloads: Repeated::begin(alloc),
+            indices: Repeated::begin(alloc),
+            names: Repeated::begin(alloc),
+        }
+    }
+
+    fn take(&mut self, alloc: Global, field: &Field<'_>) -> Result<(), ReadFault> {
+        match field.number {
+            1 => take_message(&mut self.leaf, alloc, field),
+            2 => add_message(&mut self.leaves, alloc, field),
+            3 => take_fixed(&mut self.time, field),
+            4 => take_number(&mut self.duration, field),
+            6 => take_number(&mut self.period, field),
+            7 => take_bytes(&mut self.id, alloc, field),
+            8 => add_fixed(&mut self.times, field),
+            10 => add_bytes(&mut self.payloads, alloc, field),
+            11 => add_number(&mut self.indices, field),
+            12 => add_text(&mut self.names, alloc, field),
+            _ => Ok(()),
+        }
+    }
+
+    fn rows_len(&self) -> u64 {
+        message_len(1, &self.leaf)
+            + messages_len(2, &self.leaves)
+            + fixed_len(3, self.time)
+            + number_len(4, self.duration)
+            + number_len(6, self.period)
+            + bytes_len(7, &self.id)
+            + fixed_list_len(8, &self.times)
+            + bytes_list_len(10, &self.payloads)
+            + numbers_len(11, &self.indices)
+            + text_list_len(12, &self.names)
+    }
+
+    #[tactic(auto, using(pb_wire::proofs::Begins::growing))]
+    fn put_rows(&self, out: &mut Blob) -> Result<(), NoMemory> {
+        put_message(out, 1, &self.leaf)?;
+        put_messages(out, 2, &self.leaves)?;
+        put_fixed(out, 3, self.time)?;
+        put_number(out, 4, self.duration)?;
+        put_number(out, 6, self.period)?;
+        put_bytes(out, 7, &self.id)?;
+        put_fixed_list(out, 8, &self.times)?;
+        put_bytes_list(out, 10, &self.payloads)?;
+        put_numbers(out, 11, &self.indices)?;
+        put_text_list(out, 12, &self.names)?;
+        Ok(())
+    }
+}

@@ -1,0 +1,37 @@
+//! The words of the command line.
+use crate::fault::CaseFault;
+use commands::{ToolPlan, plan};
+use std::alloc::{AllocError, Global};
+
+/// What words ask for, each word that is taken in brackets, or why they are refused.
+pub fn told(alloc: Global, data: &str) -> Result<String, CaseFault> {
+    match plan(alloc, &words_of(alloc, data)?) {
+        Ok(plan) => Ok(plan_told(alloc, &plan)?),
+        Err(refusal) => Ok(format!(in alloc; "{refusal}")?),
+    }
+}
+
+/// The words of a text. `""` stands for the empty word.
+pub fn words_of(alloc: Global, data: &str) -> Result<Vec<String>, AllocError> {
+    let mut words = Vec::new(alloc);
+    for word in data.split_whitespace() {
+        let word = if word == "\"\"" { "" } else { word };
+        words.push(String::from_str(alloc, word)?)?;
+    }
+    Ok(words)
+}
+
+fn plan_told(alloc: Global, plan: &ToolPlan) -> Result<String, AllocError> {
+    match plan {
+        ToolPlan::Check { files } => {
+            let mut told = String::from_str(alloc, "check")?;
+            for file in files.as_slice() {
+                told.push_str(format!(in alloc; " [{}]", file.as_str())?.as_str())?;
+            }
+            Ok(told)
+        }
+        ToolPlan::Canon { file, target } => {
+            format!(in alloc; "canon [{}] to [{}]", file.as_str(), target.as_str())
+        }
+    }
+}
