@@ -8,4 +8,6 @@ mod key_tables;
 #[cfg(test)]
 mod records;
 #[cfg(test)]
+mod tool;
+#[cfg(test)]
 mod wire;
