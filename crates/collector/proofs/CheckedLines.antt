@@ -46,7 +46,7 @@ message_of_line : (m : FileMap) (name line : List ℕ) → line_at m name ≡ Ok
 message_of_line m name line e =
     let bytes : WentOn (bytes_at m name) (line_in name) line = went_on _ _ _ e in
     let message : WentOn (accepted name (message_of bytes.value)) (message_line name) line = went_on _ _ _ bytes.later in
-    (message.value, rw bytes.is message.is)
+    (message.value, ap (λ r. after r (λ (b : List ℕ). accepted name (message_of b))) bytes.is ∙ message.is)
 
 messages_of_lines : (m : FileMap) (names : Names) (lines : List (List ℕ)) → each (line_at m) names ≡ Ok lines
     → (messages : List Message) × (each (message_at m) names ≡ Ok messages)
@@ -55,14 +55,17 @@ messages_of_lines m (name ∷ names) lines e =
     let first : WentOn (line_at m name) (λ a. after (each (line_at m) names) (λ l. Ok (a ∷ l))) lines = went_on _ _ _ e in
     let rest : WentOn (each (line_at m) names) (λ l. Ok (first.value ∷ l)) lines = went_on _ _ _ first.later in
     let one : (message : Message) × (message_at m name ≡ Ok message) = message_of_line m name first.value first.is in
-    let more : (messages : List Message) × (each (message_at m) names ≡ Ok messages) = messages_of_lines m names rest.value rest.is in
-    (one.0 ∷ more.0, rw one.1 (rw more.1 refl))
+    let more : (messages : List Message) × (each (message_at m) names ≡ Ok messages) = messages_of_lines m names rest.value rest.is in (
+      one.0 ∷ more.0,
+      ap (λ r. after r (λ (a : Message). after (each (message_at m) names) (λ rest. Ok (a ∷ rest)))) one.1
+          ∙ ap (λ r. after r (λ (rest : List Message). Ok (one.0 ∷ rest))) more.1,
+    )
 
 are_accepted : (m : FileMap) (names : Names) (lines : List ℕ) → lines_at m names ≡ Ok lines → IsOk (each (message_at m) names)
 are_accepted m names lines e =
     let before : WentOn (each (line_at m) names) (λ ls. Ok (concat ls)) lines = went_on _ _ _ e in
     let all : (messages : List Message) × (each (message_at m) names ≡ Ok messages) = messages_of_lines m names before.value before.is in
-    subst IsOk (sym all.1) tt
+    subst IsOk (sym all.1) refl
 
 -- ---- the same where a map is told, which the files before left as it was
 

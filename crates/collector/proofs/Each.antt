@@ -44,7 +44,7 @@ each-stops f (x ∷ xs) ys vs stop e h =
 -- ---- no name
 none_before : (told : Option FileMap) → IfSome told (λ m. IsOk (each (message_at m) []))
 none_before None = tt
-none_before (Some m) = tt
+none_before (Some m) = refl
 
 -- ---- one name more
 

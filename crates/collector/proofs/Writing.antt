@@ -47,7 +47,7 @@ pub left_at : (fs : Files) (i : ℕ) (f : List ℕ × List ℕ) (o now new : Opt
     → now ≡ put_files (take i fs) o → n ≤ n' → FileLeft f.0 now new n' n'' stop → FilesLeft fs o new n n'' stop
 left_at fs i f o now new n n' n'' (Refused refusal) lt is so_far later left = left
 left_at fs i f o now new n n' n'' (Read name) lt is so_far later left = left
-left_at fs i f o now new n n' n'' (Write name) lt is so_far later (named, failed) = failed_at fs i f name o now new n n' n'' lt is so_far later named failed
+left_at fs i f o now new n n' n'' (Write name) lt is so_far later (named, same, rose) = failed_at fs i f name o now new n n' n'' lt is so_far later named (same, rose)
 left_at fs i f o now new n n' n'' NoMemory lt is so_far later (inl same) = inl (record { done = i; is = same ∙ so_far })
 left_at fs i f o now new n n' n'' NoMemory lt is so_far later (inr failed) =
     inr (record { name = f.0; failed = failed_at fs i f f.0 o now new n n' n'' lt is so_far later refl failed })
