@@ -11,12 +11,25 @@
 //!
 //! What comes of a command line is `STATUS; out TEXT; err TEXT; NAME=BYTES`: its status, what it wrote to each of the two
 //! where that is anything, and each file that is new or has other bytes. In a text a line feed is `\n` and a backslash `\\`.
+//!
+//! The line `errors` tells what the errors of the devices, of a draft and of the tool show.
 #![tactic(auto)]
 
+mod errors;
 mod row;
 mod run;
 
+use anyhow::Result;
+use std::alloc::Global;
 use std::io;
+
+// What comes of a case.
+fn told(alloc: Global, line: &str) -> Result<String> {
+    if line == "errors" {
+        return errors::shown(alloc);
+    }
+    run::outcome(alloc, line)
+}
 
 fn main(rt: HostRuntime) -> io::Result<()> {
     for line in rt.lines(rt.alloc()) {
@@ -25,7 +38,7 @@ fn main(rt: HostRuntime) -> io::Result<()> {
             println!(rt; "{line}")?;
             continue;
         }
-        match run::outcome(rt.alloc(), line.as_str()) {
+        match told(rt.alloc(), line.as_str()) {
             Ok(text) => println!(rt; "{text}")?,
             Err(error) => println!(rt; "no case: {error:#}")?,
         }
