@@ -1,12 +1,13 @@
 -- The lines of files, one after the other.
-use Rattle.std.proofs.Common.{◌≡◌, ℕ, List, [], ◌∷◌, ◌++◌, ◌+◌, ◌<◌, length, take, refl, sym, ap, ◌∙◌, get_or, Option, Some, None, Ok, Err, IfSome, subst, append-nil, append_assoc}
+use Rattle.std.proofs.Common.{◌≡◌, ℕ, List, [], ◌∷◌, ◌++◌, ◌+◌, ◌<◌, length, take, refl, sym, ap, ◌∙◌, get_or, Option, Some, None, Ok, Err, IsOk, IfSome, subst, append-nil, append_assoc}
 use Rattle.std.specs.List.{concat}
 use Rattle.outside.specs.FileMap.{FileMap}
 use Rattle.collector.specs.declared.stop.Stop.{Stop}
 use Rattle.collector.specs.declared.stop.Stop.TheVariants.{Refused, Read, Write, NoMemory}
 use Rattle.collector.specs.Causes.{IsStop}
-use Rattle.collector.specs.CheckAnswer.{line_at, lines_at}
-use Rattle.collector.specs.Messages.{each}
+use Rattle.otlp_msg.specs.Message.{Message, message_of}
+use Rattle.collector.specs.CheckAnswer.{line_at, line_in, lines_at, message_line}
+use Rattle.collector.specs.Messages.{accepted, after, bytes_at, each, message_at}
 use Rattle.collector.proofs.Each.{Names, WentOn, went_on, each_more, each_stopped}
 
 -- one text more at the end
@@ -38,6 +39,34 @@ lines_stopped m names i name lines (Read read) lt is so_far one = tt
 lines_stopped m names i name lines (Write written) lt is so_far one = tt
 lines_stopped m names i name lines NoMemory lt is so_far one = tt
 
+-- ---- names whose lines stand hold messages
+
+-- the message whose line this is
+message_of_line : (m : FileMap) (name line : List ℕ) → line_at m name ≡ Ok line → (message : Message) × (message_at m name ≡ Ok message)
+message_of_line m name line e =
+    let bytes : WentOn (bytes_at m name) (line_in name) line = went_on _ _ _ e in
+    let message : WentOn (accepted name (message_of bytes.value)) (message_line name) line = went_on _ _ _ bytes.later in
+    (message.value, ap (λ r. after r (λ (b : List ℕ). accepted name (message_of b))) bytes.is ∙ message.is)
+
+messages_of_lines : (m : FileMap) (names : Names) (lines : List (List ℕ)) → each (line_at m) names ≡ Ok lines
+    → (messages : List Message) × (each (message_at m) names ≡ Ok messages)
+messages_of_lines m [] lines e = ([], refl)
+messages_of_lines m (name ∷ names) lines e =
+    let first : WentOn (line_at m name) (λ a. after (each (line_at m) names) (λ l. Ok (a ∷ l))) lines = went_on _ _ _ e in
+    let rest : WentOn (each (line_at m) names) (λ l. Ok (first.value ∷ l)) lines = went_on _ _ _ first.later in
+    let one : (message : Message) × (message_at m name ≡ Ok message) = message_of_line m name first.value first.is in
+    let more : (messages : List Message) × (each (message_at m) names ≡ Ok messages) = messages_of_lines m names rest.value rest.is in (
+      one.0 ∷ more.0,
+      ap (λ r. after r (λ (a : Message). after (each (message_at m) names) (λ rest. Ok (a ∷ rest)))) one.1
+          ∙ ap (λ r. after r (λ (rest : List Message). Ok (one.0 ∷ rest))) more.1,
+    )
+
+are_accepted : (m : FileMap) (names : Names) (lines : List ℕ) → lines_at m names ≡ Ok lines → IsOk (each (message_at m) names)
+are_accepted m names lines e =
+    let before : WentOn (each (line_at m) names) (λ ls. Ok (concat ls)) lines = went_on _ _ _ e in
+    let all : (messages : List Message) × (each (message_at m) names ≡ Ok messages) = messages_of_lines m names before.value before.is in
+    subst IsOk (sym all.1) refl
+
 -- ---- the same where a map is told, which the files before left as it was
 
 pub told_more : (told now : Option FileMap) (names : Names) (i : ℕ) (name lines line both : List ℕ) → i < length names → name ≡ get_or names i name → now ≡ told
@@ -53,3 +82,8 @@ pub told_stopped : (told now : Option FileMap) (names : Names) (i : ℕ) (name l
 told_stopped None now names i name lines stop lt is same so_far one = tt
 told_stopped (Some m) now names i name lines stop lt is same so_far one =
     lines_stopped m names i name lines stop lt is so_far (subst (λ (o : Option FileMap). IfSome o (λ m. IsStop (line_at m name) stop)) same one)
+
+pub told_accepted : (told : Option FileMap) (names : Names) (lines : List ℕ) → IfSome told (λ m. lines_at m names ≡ Ok lines)
+    → IfSome told (λ m. IsOk (each (message_at m) names))
+told_accepted None names lines e = tt
+told_accepted (Some m) names lines e = are_accepted m names lines e

@@ -1,10 +1,12 @@
 -- Files taken one by one, up to the first stop.
-use Rattle.std.proofs.Common.{◌≡◌, ◌≤◌, ℕ, zero, suc, List, [], ◌∷◌, ◌++◌, ◌+◌, ◌<◌, inl, inr, length, take, drop, take-append-drop, refl, sym, ap, ◌∙◌, get_or, Result, Ok, Err, subst, arith}
+use Rattle.std.proofs.Common.{◌≡◌, ◌≤◌, ℕ, List, [], ◌∷◌, ◌++◌, ◌+◌, ◌<◌, length, take, drop, take-append-drop, refl, sym, ap, ◌∙◌, get_or, Option, Some, None, Result, Ok, Err, IsOk, IfSome, subst, arith}
 use Rattle.std.proofs.lemmas.List.{drop_more, take_more}
 use Rattle.collector.specs.declared.stop.Stop.{Stop}
 use Rattle.collector.specs.declared.stop.Stop.TheVariants.{Refused, Read, Write, NoMemory}
-use Rattle.collector.specs.Causes.{IsOneOf, ReadCause}
-use Rattle.collector.specs.Messages.{after, each}
+use Rattle.outside.specs.Causes.{FailedAt}
+use Rattle.outside.specs.FileMap.{FileMap}
+use Rattle.collector.specs.Causes.{FileCause, ReadCause}
+use Rattle.collector.specs.Messages.{after, each, message_at}
 
 abbrev pub Names : Type 0
 Names = List (List ℕ)
@@ -39,6 +41,11 @@ each-stops f (x ∷ xs) ys vs stop e h =
     let ends : each f (xs ++ ys) ≡ Err stop = each-stops f xs ys rest.value stop rest.is h in
     rw first.is (rw ends refl)
 
+-- ---- no name
+none_before : (told : Option FileMap) → IfSome told (λ m. IsOk (each (message_at m) []))
+none_before None = tt
+none_before (Some m) = refl
+
 -- ---- one name more
 
 -- the names up to the one at i, and all with the one at i in their midst
@@ -65,16 +72,33 @@ each_stopped f names i name vs stop lt is so_far one =
     let ends : each f (name ∷ drop (i + 1) names) ≡ Err stop = rw one refl in
     subst (λ (l : Names). each f l ≡ Err stop) (midst names i name lt is) (each-stops f (take i names) (name ∷ drop (i + 1) names) vs stop so_far ends)
 
--- a stop at the reading of the name at i is one at the reading of them all
-one_at : (names : Names) (i : ℕ) (name read : List ℕ) → i < length names → name ≡ get_or names i name → IsOneOf (name ∷ []) read → IsOneOf names read
-one_at [] i name read lt is h = absurd (omega arith)
-one_at (n ∷ ns) zero name read lt is (inl e) = inl (e ∙ is)
-one_at (n ∷ ns) zero name read lt is (inr none) = absurd none
-one_at (n ∷ ns) (suc i) name read lt is h = inr (one_at ns i name read (omega arith) is h)
+-- a stop at the reading of the name at i is one at the reading of them all, where those before it are accepted
+pub caused_at : (told : Option FileMap) (failed : List ℕ → Type 0) (names : Names) (i : ℕ) (name : List ℕ) (n n' n'' : ℕ) (stop : Stop) → i < length names → name ≡ get_or names i name
+    → n ≤ n' → IfSome told (λ m. IsOk (each (message_at m) (take i names))) → FileCause name (FailedAt failed n' n'') stop → ReadCause names told (FailedAt failed n n'') stop
+caused_at told failed names i name n n' n'' (Refused refusal) lt is later so_far h = h
+caused_at told failed names i name n n' n'' (Read read) lt is later so_far (e, (at, rose)) = (
+  record {
+    before = take i names;
+    later = drop (i + 1) names;
+    is = sym (midst names i name lt is) ∙ ap (λ (x : List ℕ). take i names ++ (x ∷ drop (i + 1) names)) (sym e);
+    accepted = so_far;
+  },
+  (subst failed (sym e) at, omega arith),
+)
+caused_at told failed names i name n n' n'' (Write written) lt is later so_far h = h
+caused_at told failed names i name n n' n'' NoMemory lt is later so_far h = tt
 
-pub caused_at : (names : Names) (i : ℕ) (name : List ℕ) (n n' n'' : ℕ) (stop : Stop) → i < length names → name ≡ get_or names i name
-    → n ≤ n' → ReadCause (name ∷ []) n' n'' stop → ReadCause names n n'' stop
-caused_at names i name n n' n'' (Refused refusal) lt is later h = h
-caused_at names i name n n' n'' (Read read) lt is later (one, rose) = (one_at names i name read lt is one, omega arith)
-caused_at names i name n n' n'' (Write written) lt is later h = h
-caused_at names i name n n' n'' NoMemory lt is later h = tt
+-- a stop at the reading of one file is one at the reading of that file alone
+pub one_caused : (told : Option FileMap) (failed : List ℕ → Type 0) (name : List ℕ) (stop : Stop) → FileCause name failed stop → ReadCause (name ∷ []) told failed stop
+one_caused told failed name (Refused refusal) h = h
+one_caused told failed name (Read read) (e, at) = (
+  record {
+    before = [];
+    later = [];
+    is = ap (λ (x : List ℕ). x ∷ []) (sym e);
+    accepted = none_before told;
+  },
+  subst failed (sym e) at,
+)
+one_caused told failed name (Write written) h = h
+one_caused told failed name NoMemory h = tt

@@ -7,7 +7,7 @@ use Rattle.outside.specs.FileMap.{FileMap, written, SameBut}
 use Rattle.collector.specs.declared.output.Output.{Output}
 use Rattle.collector.specs.declared.stop.Stop.{Stop}
 use Rattle.collector.specs.declared.stop.Stop.TheVariants.{Refused, Read, Write, NoMemory}
-use Rattle.collector.specs.Causes.{IsOneOf, IsWriteOf}
+use Rattle.collector.specs.Causes.{IsOneOf, IsWriteAt, IsWriteOf}
 use Rattle.collector.specs.Delivery.{put_files, names_of, FirstUntold, FailedAtFile, FileLeft, FilesLeft, Seen, Untouched, PartDelivered}
 
 abbrev Files : Type 0
@@ -32,13 +32,13 @@ put_files_more fs i f o now new lt is so_far step =
     ∙ ap (λ (l : Files). put_files l o) (sym (one_more fs i f lt is))
 
 -- the write of the file at i failed
-failed_at : (fs : Files) (i : ℕ) (f : List ℕ × List ℕ) (o now new : Option FileMap) (n n' n'' : ℕ) → i < length fs → f ≡ get_or fs i f
-    → now ≡ put_files (take i fs) o → n ≤ n' → SameBut f.0 now new × Rose n' n'' → FailedAtFile fs o new n n''
-failed_at fs i f o now new n n' n'' lt is so_far later (same, rose) = record {
+failed_at : (fs : Files) (i : ℕ) (f : List ℕ × List ℕ) (name : List ℕ) (o now new : Option FileMap) (n n' n'' : ℕ) → i < length fs → f ≡ get_or fs i f
+    → now ≡ put_files (take i fs) o → n ≤ n' → name ≡ f.0 → SameBut f.0 now new × Rose n' n'' → FailedAtFile fs name o new n n''
+failed_at fs i f name o now new n n' n'' lt is so_far later named (same, rose) = record {
   done = i;
-  untold = subst (λ (l : Files). FirstUntold l (put_files (take i fs) o) new)
+  untold = subst (λ (l : Files). FirstUntold name l (put_files (take i fs) o) new)
       (sym (drop_more fs i f lt ∙ ap (λ (x : List ℕ × List ℕ). x ∷ drop (i + 1) fs) (sym is)))
-      (subst (λ (p : Option FileMap). SameBut f.0 p new) so_far same);
+      (named, subst (λ (p : Option FileMap). SameBut f.0 p new) so_far same);
   rose = omega arith;
 }
 
@@ -47,9 +47,10 @@ pub left_at : (fs : Files) (i : ℕ) (f : List ℕ × List ℕ) (o now new : Opt
     → now ≡ put_files (take i fs) o → n ≤ n' → FileLeft f.0 now new n' n'' stop → FilesLeft fs o new n n'' stop
 left_at fs i f o now new n n' n'' (Refused refusal) lt is so_far later left = left
 left_at fs i f o now new n n' n'' (Read name) lt is so_far later left = left
-left_at fs i f o now new n n' n'' (Write name) lt is so_far later left = failed_at fs i f o now new n n' n'' lt is so_far later left
+left_at fs i f o now new n n' n'' (Write name) lt is so_far later (named, same, rose) = failed_at fs i f name o now new n n' n'' lt is so_far later named (same, rose)
 left_at fs i f o now new n n' n'' NoMemory lt is so_far later (inl same) = inl (record { done = i; is = same ∙ so_far })
-left_at fs i f o now new n n' n'' NoMemory lt is so_far later (inr failed) = inr (failed_at fs i f o now new n n' n'' lt is so_far later failed)
+left_at fs i f o now new n n' n'' NoMemory lt is so_far later (inr failed) =
+    inr (record { name = f.0; failed = failed_at fs i f f.0 o now new n n' n'' lt is so_far later refl failed })
 
 -- where nothing was written, what is written is none of the files
 unwritten_of : (want : Result Output Stop) (before now : Seen) → Untouched before now → PartDelivered want before now
@@ -63,16 +64,16 @@ unwritten (Some m) want before now still = unwritten_of (want m) before now stil
 -- ---- names
 
 -- the name of the file at i is one of theirs
-one_at : (fs : Files) (i : ℕ) (f : List ℕ × List ℕ) (name : List ℕ) → i < length fs → f ≡ get_or fs i f → IsOneOf (f.0 ∷ []) name
+one_at : (fs : Files) (i : ℕ) (f : List ℕ × List ℕ) (name : List ℕ) → i < length fs → f ≡ get_or fs i f → name ≡ f.0
     → IsOneOf (names_of fs) name
-one_at [] i f name lt is h = absurd (omega arith)
-one_at (g ∷ gs) zero f name lt is (inl e) = inl (e ∙ ap (λ (x : List ℕ × List ℕ). x.0) is)
-one_at (g ∷ gs) zero f name lt is (inr none) = absurd none
-one_at (g ∷ gs) (suc i) f name lt is h = inr (one_at gs i f name (omega arith) is h)
+one_at [] i f name lt is e = absurd (omega arith)
+one_at (g ∷ gs) zero f name lt is e = inl (e ∙ ap (λ (x : List ℕ × List ℕ). x.0) is)
+one_at (g ∷ gs) (suc i) f name lt is e = inr (one_at gs i f name (omega arith) is e)
 
 -- so where the one at i stops, the stop is of the files
-pub named_at : (fs : Files) (i : ℕ) (f : List ℕ × List ℕ) (stop : Stop) → i < length fs → f ≡ get_or fs i f → IsWriteOf (f.0 ∷ []) stop → IsWriteOf (names_of fs) stop
-named_at fs i f (Refused refusal) lt is h = h
-named_at fs i f (Read name) lt is h = h
-named_at fs i f (Write name) lt is h = one_at fs i f name lt is h
-named_at fs i f NoMemory lt is h = tt
+pub named_at : (failed : List ℕ → Type 0) (fs : Files) (i : ℕ) (f : List ℕ × List ℕ) (stop : Stop) → i < length fs → f ≡ get_or fs i f
+    → IsWriteAt f.0 failed stop → IsWriteOf (names_of fs) failed stop
+named_at failed fs i f (Refused refusal) lt is h = h
+named_at failed fs i f (Read name) lt is h = h
+named_at failed fs i f (Write name) lt is (e, h) = (one_at fs i f name lt is e, subst failed (sym e) h)
+named_at failed fs i f NoMemory lt is h = tt

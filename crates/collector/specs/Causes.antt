@@ -1,9 +1,9 @@
 -- When a run may stop.
-use Rattle.std.specs.Prelude.{◌≡◌, ◌⊎◌, ℕ, List, [], ◌∷◌, codes, Option, Result, Err, IsOk, IfOk}
+use Rattle.std.specs.Prelude.{◌≡◌, ◌⊎◌, ℕ, List, [], ◌∷◌, ◌++◌, codes, Option, Result, Err, IsOk, IsOkAnd, IfSome}
 use Rattle.outside.specs.Causes.{Rose}
-use Rattle.outside.specs.Told.{appended}
+use Rattle.outside.specs.FileMap.{FileMap}
 use Rattle.commands.specs.Plan.{inputs, targets}
-use Rattle.collector.specs.Lines.{read_text, write_text}
+use Rattle.collector.specs.Messages.{each, message_at}
 use Rattle.commands.specs.declared.words.ToolPlan.{ToolPlan}
 use Rattle.commands.specs.declared.words.WordRefusal.{WordRefusal}
 use Rattle.commands.specs.declared.words.WordRefusal.TheVariants.{Fault}
@@ -17,11 +17,16 @@ abbrev pub IsOneOf : List (List ℕ) → List ℕ → Type 0
 IsOneOf [] name = ⊥
 IsOneOf (n ∷ ns) name = (name ≡ n) ⊎ IsOneOf ns name
 
--- what the line says of a failed write: the name of a file that is written, and the count of files rose; or the standard
--- output, and its count rose
-abbrev pub WriteCause : List (List ℕ) → ℕ → ℕ → ℕ → ℕ → List ℕ → Type 0
-WriteCause names files files' out out' name =
-    (IsOneOf names name × Rose files files') ⊎ ((name ≡ codes "standard output") × Rose out out')
+-- the name of a failed write: that of a file that is written, whose write failed; or the standard output, and its count rose
+abbrev pub WriteCause : List (List ℕ) → (List ℕ → Type 0) → ℕ → ℕ → List ℕ → Type 0
+WriteCause names failed out out' name = (IsOneOf names name × failed name) ⊎ ((name ≡ codes "standard output") × Rose out out')
+
+-- the name is of one of these files, and those before it hold messages that are accepted, where the files are told
+pub record IsNextOf (names : List (List ℕ)) (told : Option FileMap) (name : List ℕ) : Type 0 where
+  pub before : List (List ℕ)
+  pub later : List (List ℕ)
+  pub is : names ≡ before ++ name ∷ later
+  pub accepted : IfSome told (λ m. IsOk (each (message_at m) before))
 
 -- a refusal is the one that is wanted; a fault of the outside and want of memory are free here
 abbrev pub IsStop : {T : Type 0} → Result T Stop → Stop → Type 0
@@ -36,13 +41,20 @@ IsBeyondWords (Words place reason) = ⊥
 IsBeyondWords (File name text) = Unit {0}
 IsBeyondWords (Limit size) = Unit {0}
 
--- while files of these names are read, a fault comes only where the count rose, and names one of them; the words are not
--- refused, and nothing is written
-abbrev pub ReadCause : List (List ℕ) → ℕ → ℕ → Stop → Type 0
-ReadCause names before now (Refused refusal) = IsBeyondWords refusal
-ReadCause names before now (Read name) = IsOneOf names name × Rose before now
-ReadCause names before now (Write name) = ⊥
-ReadCause names before now NoMemory = Unit {0}
+-- while the file of this name is read, a fault comes only where a read of it failed, and names it; the words are not refused,
+-- and no write is named
+abbrev pub FileCause : List ℕ → (List ℕ → Type 0) → Stop → Type 0
+FileCause name failed (Refused refusal) = IsBeyondWords refusal
+FileCause name failed (Read name') = (name' ≡ name) × failed name
+FileCause name failed (Write name') = ⊥
+FileCause name failed NoMemory = Unit {0}
+
+-- the same of files that are read in order: the one that is named comes after files that are accepted
+abbrev pub ReadCause : List (List ℕ) → Option FileMap → (List ℕ → Type 0) → Stop → Type 0
+ReadCause names told failed (Refused refusal) = IsBeyondWords refusal
+ReadCause names told failed (Read name) = IsNextOf names told name × failed name
+ReadCause names told failed (Write name) = ⊥
+ReadCause names told failed NoMemory = Unit {0}
 
 -- the stop is of what was read, or want of memory
 abbrev pub IsOfInput : Stop → Type 0
@@ -58,19 +70,26 @@ IsNoFault (Read name) = ⊥
 IsNoFault (Write name) = ⊥
 IsNoFault NoMemory = Unit {0}
 
--- the stop is a failed write under one of these names, or want of memory
-abbrev pub IsWriteOf : List (List ℕ) → Stop → Type 0
-IsWriteOf names (Refused refusal) = ⊥
-IsWriteOf names (Read name) = ⊥
-IsWriteOf names (Write name) = IsOneOf names name
-IsWriteOf names NoMemory = Unit {0}
+-- the stop is a failed write under this name, whose write failed, or out of memory
+abbrev pub IsWriteAt : List ℕ → (List ℕ → Type 0) → Stop → Type 0
+IsWriteAt name failed (Refused refusal) = ⊥
+IsWriteAt name failed (Read name') = ⊥
+IsWriteAt name failed (Write name') = (name' ≡ name) × failed name
+IsWriteAt name failed NoMemory = Unit {0}
+
+-- the same under one of these names
+abbrev pub IsWriteOf : List (List ℕ) → (List ℕ → Type 0) → Stop → Type 0
+IsWriteOf names failed (Refused refusal) = ⊥
+IsWriteOf names failed (Read name) = ⊥
+IsWriteOf names failed (Write name) = IsOneOf names name × failed name
+IsWriteOf names failed NoMemory = Unit {0}
 
 -- where the stop is a failed write, its name has a cause
-abbrev pub HasWriteCause : List (List ℕ) → ℕ → ℕ → ℕ → ℕ → Stop → Type 0
-HasWriteCause names files files' out out' (Refused refusal) = Unit {0}
-HasWriteCause names files files' out out' (Read name) = Unit {0}
-HasWriteCause names files files' out out' (Write name) = WriteCause names files files' out out' name
-HasWriteCause names files files' out out' NoMemory = Unit {0}
+abbrev pub HasWriteCause : List (List ℕ) → (List ℕ → Type 0) → ℕ → ℕ → Stop → Type 0
+HasWriteCause names failed out out' (Refused refusal) = Unit {0}
+HasWriteCause names failed out out' (Read name) = Unit {0}
+HasWriteCause names failed out out' (Write name) = WriteCause names failed out out' name
+HasWriteCause names failed out out' NoMemory = Unit {0}
 
 -- a refusal of the words is the one that is wanted; under every other the words are accepted
 abbrev pub WordsRefused : Result ToolPlan WordRefusal → ToolRefusal → Type 0
@@ -85,21 +104,10 @@ WordsCause want (Read name) = IsOk want
 WordsCause want (Write name) = IsOk want
 WordsCause want NoMemory = Unit {0}
 
--- a fault comes only where a count rose, and names what failed: the first two counts are of files, the other two of `out`
-abbrev pub FaultCause : Result ToolPlan WordRefusal → ℕ → ℕ → ℕ → ℕ → Stop → Type 0
-FaultCause want files files' out out' (Refused refusal) = Unit {0}
-FaultCause want files files' out out' (Read name) = IfOk want (λ plan. IsOneOf (inputs plan) name) × Rose files files'
-FaultCause want files files' out out' (Write name) = IfOk want (λ plan. WriteCause (targets plan) files files' out out' name)
-FaultCause want files files' out out' NoMemory = Unit {0}
-
--- the line of a failed read of one of these files was taken
-pub record TookRead (want : Result ToolPlan WordRefusal) (old new : Option (List ℕ)) : Type 0 where
-  pub name : List ℕ
-  pub one : IfOk want (λ plan. IsOneOf (inputs plan) name)
-  pub is : new ≡ appended old (read_text name)
-
--- the line of a failed write of one of these files, or of the standard output, was taken
-pub record TookWrite (want : Result ToolPlan WordRefusal) (files files' out out' : ℕ) (old new : Option (List ℕ)) : Type 0 where
-  pub name : List ℕ
-  pub cause : IfOk want (λ plan. WriteCause (targets plan) files files' out out' name)
-  pub is : new ≡ appended old (write_text name)
+-- a fault comes only where a call failed, and names what failed: `reads` and `writes` tell of which file a read or a write
+-- failed, and the two counts are of `out`
+abbrev pub FaultCause : Result ToolPlan WordRefusal → Option FileMap → (List ℕ → Type 0) → (List ℕ → Type 0) → ℕ → ℕ → Stop → Type 0
+FaultCause want told reads writes out out' (Refused refusal) = Unit {0}
+FaultCause want told reads writes out out' (Read name) = IsOkAnd want (λ plan. IsNextOf (inputs plan) told name) × reads name
+FaultCause want told reads writes out out' (Write name) = IsOkAnd want (λ plan. WriteCause (targets plan) writes out out' name)
+FaultCause want told reads writes out out' NoMemory = Unit {0}

@@ -1,5 +1,5 @@
 -- What is written of an output, wholly or in part.
-use Rattle.std.specs.Prelude.{◌≡◌, ◌≢◌, ◌⊎◌, ℕ, List, [], ◌∷◌, map, take, drop, Option, Some, Result, Ok, Err}
+use Rattle.std.specs.Prelude.{◌≡◌, ◌≢◌, ◌⊎◌, ℕ, List, [], ◌∷◌, codes, map, take, drop, Option, Some, Result, Ok, Err}
 use Rattle.outside.specs.Causes.{Rose}
 use Rattle.outside.specs.FileMap.{FileMap, written, SameBut}
 use Rattle.outside.specs.Told.{appended, TookPrefix}
@@ -7,16 +7,16 @@ use Rattle.collector.specs.declared.output.Output.{Output}
 use Rattle.collector.specs.declared.stop.Stop.{Stop}
 use Rattle.collector.specs.declared.stop.Stop.TheVariants.{Refused, Read, Write, NoMemory}
 
--- what the files and `out` tell, and how often a call of each has failed
+-- what the files and `out` tell, and how often a write of each has failed
 pub record Seen : Type 0 where
   pub told : Option FileMap
-  pub faults : ℕ
+  pub write_faults : ℕ
   pub taken : Option (List ℕ)
   pub out_faults : ℕ
 
 -- the same, in one line
 abbrev pub seen : Option FileMap → ℕ → Option (List ℕ) → ℕ → Seen
-seen told faults taken out_faults = record { told = told; faults = faults; taken = taken; out_faults = out_faults }
+seen told write_faults taken out_faults = record { told = told; write_faults = write_faults; taken = taken; out_faults = out_faults }
 
 -- the files put in order, where a map is told
 abbrev pub put_files : List (List ℕ × List ℕ) → Option FileMap → Option FileMap
@@ -27,21 +27,26 @@ put_files (f ∷ fs) told = put_files fs (written f.0 f.1 told)
 abbrev pub names_of : List (List ℕ × List ℕ) → List (List ℕ)
 names_of files = map (λ f. f.0) files
 
--- the first of these files is untold, and every other name is as before
-abbrev pub FirstUntold : List (List ℕ × List ℕ) → Option FileMap → Option FileMap → Type 0
-FirstUntold [] old new = ⊥
-FirstUntold (f ∷ fs) old new = SameBut f.0 old new
+-- the first of these files has this name and is untold, and every other name is as before
+abbrev pub FirstUntold : List ℕ → List (List ℕ × List ℕ) → Option FileMap → Option FileMap → Type 0
+FirstUntold name [] old new = ⊥
+FirstUntold name (f ∷ fs) old new = (name ≡ f.0) × SameBut f.0 old new
 
 -- some of the first files are written, and nothing else
 pub record SomeWritten (files : List (List ℕ × List ℕ)) (old new : Option FileMap) : Type 0 where
   pub done : ℕ
   pub is : new ≡ put_files (take done files) old
 
--- the write of one file failed, and the count rose: those before it are written, and its name alone is untold
-pub record FailedAtFile (files : List (List ℕ × List ℕ)) (old new : Option FileMap) (faults faults' : ℕ) : Type 0 where
+-- the count of failed writes rose: the files before the one of this name are written, and this name alone is untold
+pub record FailedAtFile (files : List (List ℕ × List ℕ)) (name : List ℕ) (old new : Option FileMap) (faults faults' : ℕ) : Type 0 where
   pub done : ℕ
-  pub untold : FirstUntold (drop done files) (put_files (take done files) old) new
+  pub untold : FirstUntold name (drop done files) (put_files (take done files) old) new
   pub rose : Rose faults faults'
+
+-- the same of one of the files
+pub record FailedAtSome (files : List (List ℕ × List ℕ)) (old new : Option FileMap) (faults faults' : ℕ) : Type 0 where
+  pub name : List ℕ
+  pub failed : FailedAtFile files name old new faults faults'
 
 -- all files are written, and `out` took a prefix of the lines
 pub record AllFiles (output : Output) (before now : Seen) : Type 0 where
@@ -53,18 +58,18 @@ pub record Untouched (before now : Seen) : Type 0 where
   pub told : now.told ≡ before.told
   pub taken : now.taken ≡ before.taken
 
--- A write of the output failed. Either it was that of a file, and `out` took nothing; or all files are written, and the
--- count of `out` rose.
-abbrev pub WriteFailed : Output → Seen → Seen → Type 0
-WriteFailed output before now =
-    (FailedAtFile output.files before.told now.told before.faults now.faults × (now.taken ≡ before.taken))
-    ⊎ (AllFiles output before now × Rose before.out_faults now.out_faults)
+-- A write of the output failed, and this is its name. Either it was that of a file, and `out` took nothing; or it was that of
+-- the standard output: all files are written, and the count of `out` rose.
+abbrev pub WriteFailed : Output → Seen → Seen → List ℕ → Type 0
+WriteFailed output before now name =
+    (FailedAtFile output.files name before.told now.told before.write_faults now.write_faults × (now.taken ≡ before.taken))
+    ⊎ (name ≡ codes "standard output" × AllFiles output before now × Rose before.out_faults now.out_faults)
 
--- The output may be written in part. Either some of the first files are, the next is untold only where its write failed,
--- and `out` took nothing; or all files are written, and `out` took a prefix of the lines.
+-- The output may be written in part. Either some of the first files are, the next is untold only where the count of failed
+-- writes rose, and `out` took nothing; or all files are written, and `out` took a prefix of the lines.
 abbrev pub Partly : Output → Seen → Seen → Type 0
 Partly output before now =
-    ((SomeWritten output.files before.told now.told ⊎ FailedAtFile output.files before.told now.told before.faults now.faults)
+    ((SomeWritten output.files before.told now.told ⊎ FailedAtSome output.files before.told now.told before.write_faults now.write_faults)
     × (now.taken ≡ before.taken))
     ⊎ AllFiles output before now
 
@@ -73,10 +78,10 @@ abbrev pub Delivered : Result Output Stop → FileMap → Option FileMap → Opt
 Delivered (Ok output) m told old new = (told ≡ put_files output.files (Some m)) × (new ≡ appended old output.lines)
 Delivered (Err stop) m told old new = ⊥
 
--- there was an output, and a write of it failed
-abbrev pub FailedDelivery : Result Output Stop → Seen → Seen → Type 0
-FailedDelivery (Ok output) before now = WriteFailed output before now
-FailedDelivery (Err stop) before now = ⊥
+-- there was an output, and a write of it failed, which this is the name of
+abbrev pub FailedDelivery : Result Output Stop → Seen → Seen → List ℕ → Type 0
+FailedDelivery (Ok output) before now name = WriteFailed output before now name
+FailedDelivery (Err stop) before now name = ⊥
 
 -- the output, where there was one, may be written in part
 abbrev pub PartDelivered : Result Output Stop → Seen → Seen → Type 0
@@ -94,28 +99,28 @@ Unchanged NoMemory before now = Unit {0}
 abbrev pub LeftAtWrite : Result Output Stop → Seen → Seen → Stop → Type 0
 LeftAtWrite want before now (Refused refusal) = Unit {0}
 LeftAtWrite want before now (Read name) = Unit {0}
-LeftAtWrite want before now (Write name) = FailedDelivery want before now
+LeftAtWrite want before now (Write name) = FailedDelivery want before now name
 LeftAtWrite want before now NoMemory = Unit {0}
 
 -- what the write of one file left at its stop
 abbrev pub FileLeft : List ℕ → Option FileMap → Option FileMap → ℕ → ℕ → Stop → Type 0
 FileLeft name old new faults faults' (Refused refusal) = ⊥
 FileLeft name old new faults faults' (Read name') = ⊥
-FileLeft name old new faults faults' (Write name') = SameBut name old new × Rose faults faults'
+FileLeft name old new faults faults' (Write name') = (name' ≡ name) × SameBut name old new × Rose faults faults'
 FileLeft name old new faults faults' NoMemory = (new ≡ old) ⊎ (SameBut name old new × Rose faults faults')
 
 -- what the write of files left at its stop
 abbrev pub FilesLeft : List (List ℕ × List ℕ) → Option FileMap → Option FileMap → ℕ → ℕ → Stop → Type 0
 FilesLeft files old new faults faults' (Refused refusal) = ⊥
 FilesLeft files old new faults faults' (Read name) = ⊥
-FilesLeft files old new faults faults' (Write name) = FailedAtFile files old new faults faults'
-FilesLeft files old new faults faults' NoMemory = SomeWritten files old new ⊎ FailedAtFile files old new faults faults'
+FilesLeft files old new faults faults' (Write name) = FailedAtFile files name old new faults faults'
+FilesLeft files old new faults faults' NoMemory = SomeWritten files old new ⊎ FailedAtSome files old new faults faults'
 
 -- what the write of an output left at its stop
 abbrev pub OutputLeft : Output → Seen → Seen → Stop → Type 0
 OutputLeft output before now (Refused refusal) = ⊥
 OutputLeft output before now (Read name) = ⊥
-OutputLeft output before now (Write name) = WriteFailed output before now
+OutputLeft output before now (Write name) = WriteFailed output before now name
 OutputLeft output before now NoMemory = Partly output before now
 
 -- the status is of the answer: no fault and no want of memory

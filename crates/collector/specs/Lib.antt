@@ -7,3 +7,4 @@ pub mod Answer
 pub mod Rebuilt
 pub mod Causes
 pub mod Delivery
+pub mod Named

@@ -6,7 +6,7 @@ use Rattle.outside.specs.declared.files.Got.TheVariants.{Whole, Long, Missing}
 use Rattle.otlp_msg.specs.declared.refusal.Refusal.{Refusal}
 use Rattle.otlp_msg.specs.declared.refusal.Refusal.TheVariants as refusal
 use Rattle.otlp_msg.specs.Texts.{refusal_text}
-use Rattle.otlp_msg.specs.Message.{Message, message_limit}
+use Rattle.otlp_msg.specs.Message.{Message, message_limit, message_of}
 use Rattle.collector.specs.declared.stop.ToolRefusal.TheVariants.{File}
 use Rattle.collector.specs.declared.stop.Stop.{Stop}
 use Rattle.collector.specs.declared.stop.Stop.TheVariants.{Refused, NoMemory}
@@ -40,3 +40,7 @@ bytes_in name Missing = Err (Refused (File name (codes "missing")))
 -- the bytes under a name
 abbrev pub bytes_at : FileMap → List ℕ → Result (List ℕ) Stop
 bytes_at m name = bytes_in name (got_of m name message_limit)
+
+-- the message in the file under a name
+abbrev pub message_at : FileMap → List ℕ → Result Message Stop
+message_at m name = after (bytes_at m name) (λ bytes. accepted name (message_of bytes))

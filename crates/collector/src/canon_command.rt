@@ -1,5 +1,6 @@
 //! The command `canon`.
 ghost use Rattle.std.specs.Prelude.{◌≡◌, ◌≤◌, [], ◌∷◌, Ok, IfOk, IfErr, IfSome};
+ghost use Rattle.outside.specs.Causes.{FailedAt};
 ghost use Rattle.otlp_msg.specs.Checked.{value_of};
 ghost use Rattle.collector.specs.CanonAnswer.{canon_answer, canon_in, canon_file};
 ghost use Rattle.collector.specs.Causes.{IsStop, ReadCause, IsOfInput, IsNoFault};
@@ -30,8 +31,9 @@ pub fn perform_canon<F: Files, M: Seeds>(
     ensures rebuilt { IfOk result (λ output. IfSome (F.told files.old) (λ m. IsRebuiltAt m file.now target.now output)) }
     ensures targets { IfOk result (λ output. names_of output.files ≡ target.now ∷ []) }
     ensures same { F.told files.new ≡ F.told files.old }
-    ensures cause { IfErr result (ReadCause (file.now ∷ []) (F.faults files.old) (F.faults files.new)) }
-    ensures later { F.faults files.old ≤ F.faults files.new }
+    ensures cause { IfErr result (ReadCause (file.now ∷ []) (F.told files.old) (FailedAt (F.read_failed files.new) (F.read_faults files.old) (F.read_faults files.new))) }
+    ensures later { F.read_faults files.old ≤ F.read_faults files.new }
+    ensures writes { F.write_faults files.new ≡ F.write_faults files.old }
     ensures sound { F.sound files.old → F.sound files.new × IfErr result IsNoFault }
 {
     match read_bytes(alloc, file, files) {

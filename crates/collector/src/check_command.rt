@@ -1,8 +1,9 @@
 //! The command `check`.
-ghost use Rattle.std.specs.Prelude.{◌≡◌, ◌≤◌, [], ◌∷◌, Ok, IfOk, IfErr, IfSome};
+ghost use Rattle.std.specs.Prelude.{◌≡◌, ◌≤◌, [], Ok, IfOk, IfErr, IfSome};
+ghost use Rattle.outside.specs.Causes.{FailedAt};
 ghost use Rattle.otlp_msg.specs.Checked.{value_of};
 ghost use Rattle.collector.specs.CheckAnswer.{check_answer, lines_at, line_at, line_in, message_line};
-ghost use Rattle.collector.specs.Causes.{IsStop, ReadCause, IsOfInput, IsNoFault};
+ghost use Rattle.collector.specs.Causes.{IsStop, FileCause, ReadCause, IsOfInput, IsNoFault};
 
 use crate::lines::ok_line;
 use crate::reading::{checked_message, read_bytes};
@@ -19,8 +20,9 @@ pub fn perform_check<F: Files>(alloc: Global, names: &Texts, files: &mut F) -> R
     ensures stopped { IfErr result (λ stop. IfSome (F.told files.old) (λ m. IsStop (check_answer m names.now) stop)) }
     ensures no_files { IfOk result (λ output. output.files ≡ []) }
     ensures same { F.told files.new ≡ F.told files.old }
-    ensures cause { IfErr result (ReadCause names.now (F.faults files.old) (F.faults files.new)) }
-    ensures later { F.faults files.old ≤ F.faults files.new }
+    ensures cause { IfErr result (ReadCause names.now (F.told files.old) (FailedAt (F.read_failed files.new) (F.read_faults files.old) (F.read_faults files.new))) }
+    ensures later { F.read_faults files.old ≤ F.read_faults files.new }
+    ensures writes { F.write_faults files.new ≡ F.write_faults files.old }
     ensures sound { F.sound files.old → F.sound files.new × IfErr result IsNoFault }
 {
     match lines_of_files(alloc, names.as_slice(), files) {
@@ -37,8 +39,9 @@ fn lines_of_files<F: Files>(alloc: Global, names: &[Text], files: &mut F) -> Res
     ensures ok { IfOk result (λ lines. IfSome (F.told files.old) (λ m. lines_at m names.now ≡ Ok lines)) }
     ensures stopped { IfErr result (λ stop. IfSome (F.told files.old) (λ m. IsStop (lines_at m names.now) stop)) }
     ensures same { F.told files.new ≡ F.told files.old }
-    ensures cause { IfErr result (ReadCause names.now (F.faults files.old) (F.faults files.new)) }
-    ensures later { F.faults files.old ≤ F.faults files.new }
+    ensures cause { IfErr result (ReadCause names.now (F.told files.old) (FailedAt (F.read_failed files.new) (F.read_faults files.old) (F.read_faults files.new))) }
+    ensures later { F.read_faults files.old ≤ F.read_faults files.new }
+    ensures writes { F.write_faults files.new ≡ F.write_faults files.old }
     ensures sound { F.sound files.old → F.sound files.new × IfErr result IsNoFault }
 {
     let mut lines = Text::begin(alloc);
@@ -60,8 +63,9 @@ fn line_of_file<F: Files>(alloc: Global, name: &Text, files: &mut F) -> Result<T
     ensures ok { IfOk result (λ line. IfSome (F.told files.old) (λ m. line_at m name.now ≡ Ok line)) }
     ensures stopped { IfErr result (λ stop. IfSome (F.told files.old) (λ m. IsStop (line_at m name.now) stop)) }
     ensures same { F.told files.new ≡ F.told files.old }
-    ensures cause { IfErr result (ReadCause (name.now ∷ []) (F.faults files.old) (F.faults files.new)) }
-    ensures later { F.faults files.old ≤ F.faults files.new }
+    ensures cause { IfErr result (FileCause name.now (FailedAt (F.read_failed files.new) (F.read_faults files.old) (F.read_faults files.new))) }
+    ensures later { F.read_faults files.old ≤ F.read_faults files.new }
+    ensures writes { F.write_faults files.new ≡ F.write_faults files.old }
     ensures sound { F.sound files.old → F.sound files.new × IfErr result IsNoFault }
 {
     match read_bytes(alloc, name, files) {

@@ -18,14 +18,3 @@ pub use report::tell;
 pub use run::run_tool;
 pub use stop::{Stop, ToolRefusal};
 pub use work::perform;
-
-#[cfg(test)]
-mod canon_order_tests;
-#[cfg(test)]
-mod canon_sample_tests;
-#[cfg(test)]
-mod canon_table_tests;
-#[cfg(test)]
-mod canon_tests;
-#[cfg(test)]
-mod tests;

@@ -1,9 +1,10 @@
 //! Reads a named file, and the message in it.
-ghost use Rattle.std.specs.Prelude.{◌≡◌, ◌≤◌, [], ◌∷◌, Ok, IfOk, IfErr, IfSome};
+ghost use Rattle.std.specs.Prelude.{◌≡◌, ◌≤◌, Ok, IfOk, IfErr, IfSome};
+ghost use Rattle.outside.specs.Causes.{FailedAt};
 ghost use Rattle.otlp_msg.specs.Checked.{value_of};
 ghost use Rattle.otlp_msg.specs.Message.{message_of};
 ghost use Rattle.collector.specs.Messages.{bytes_in, bytes_at, accepted, stop_of_refusal};
-ghost use Rattle.collector.specs.Causes.{IsStop, ReadCause, IsOfInput, IsNoFault};
+ghost use Rattle.collector.specs.Causes.{IsStop, FileCause, IsOfInput, IsNoFault};
 
 use crate::{Stop, ToolRefusal};
 use otlp_msg::{Checked, MESSAGE_LIMIT, Refusal, read_message};
@@ -16,8 +17,9 @@ pub fn read_bytes<F: Files>(alloc: Global, name: &Text, files: &mut F) -> Result
     ensures ok { IfOk result (λ body. IfSome (F.told files.old) (λ m. bytes_at m name.now ≡ Ok body)) }
     ensures stopped { IfErr result (λ stop. IfSome (F.told files.old) (λ m. IsStop (bytes_at m name.now) stop)) }
     ensures same { F.told files.new ≡ F.told files.old }
-    ensures cause { IfErr result (ReadCause (name.now ∷ []) (F.faults files.old) (F.faults files.new)) }
-    ensures later { F.faults files.old ≤ F.faults files.new }
+    ensures cause { IfErr result (FileCause name.now (FailedAt (F.read_failed files.new) (F.read_faults files.old) (F.read_faults files.new))) }
+    ensures later { F.read_faults files.old ≤ F.read_faults files.new }
+    ensures writes { F.write_faults files.new ≡ F.write_faults files.old }
     ensures sound { F.sound files.old → F.sound files.new × IfErr result IsNoFault }
 {
     match files.read(alloc, name.as_str(), MESSAGE_LIMIT) {

@@ -1,13 +1,14 @@
 //! The top call of the tool.
 ghost use Rattle.std.specs.Prelude.{◌≡◌, ◌≢◌, ◌<◌, ◌⊎◌, Some, IsOk, IsErr, OnOk, IfOk, IfErr, IfSome, MatchResult};
-ghost use Rattle.outside.specs.Causes.{Rose};
+ghost use Rattle.outside.specs.Causes.{FailedAt, Rose};
 ghost use Rattle.outside.specs.Told.{appended};
 ghost use Rattle.commands.specs.Plan.{planned, texts_of};
 ghost use Rattle.collector.specs.Lines.{IsStatus, words_line};
 ghost use Rattle.collector.specs.Answer.{outcome, performed, answer};
 ghost use Rattle.collector.specs.Rebuilt.{KeepsMeaning};
-ghost use Rattle.collector.specs.Causes.{IsStop, IsNoFault, WordsCause, FaultCause, TookRead, TookWrite};
-ghost use Rattle.collector.specs.Delivery.{seen, put_files, Delivered, FailedDelivery, PartDelivered, LeftAtWrite, Unchanged, Untouched, IsAnswered};
+ghost use Rattle.collector.specs.Causes.{IsStop, IsNoFault, WordsCause, FaultCause};
+ghost use Rattle.collector.specs.Delivery.{seen, put_files, Delivered, PartDelivered, LeftAtWrite, Unchanged, Untouched, IsAnswered};
+ghost use Rattle.collector.specs.Named.{FailedRead, FailedWrite};
 
 use crate::{Stop, perform, tell, write_output};
 use commands::plan;
@@ -29,17 +30,19 @@ fn carry_out<F: Files, O: Sink, M: Seeds>(
     ensures kept { OnOk result (IfSome (F.told files.old) (λ m. IfOk (planned (texts_of words.now)) (λ plan. IfOk (performed plan m) (KeepsMeaning plan m)))) }
     ensures stopped { IfErr result (λ stop. IfSome (F.told files.old) (λ m. IsStop (outcome (texts_of words.now) m) stop)) }
     ensures words { MatchResult result (λ _. IsOk (planned (texts_of words.now))) (WordsCause (planned (texts_of words.now))) }
-    ensures fault { IfErr result (FaultCause (planned (texts_of words.now)) (F.faults files.old) (F.faults files.new) (O.faults out.old) (O.faults out.new)) }
-    ensures sound { F.sound files.old → O.sound out.old → IfErr result IsNoFault }
+    ensures fault { IfErr result (FaultCause (planned (texts_of words.now)) (F.told files.old)
+        (FailedAt (F.read_failed files.new) (F.read_faults files.old) (F.read_faults files.new))
+        (FailedAt (F.write_failed files.new) (F.write_faults files.old) (F.write_faults files.new)) (O.faults out.old) (O.faults out.new)) }
+    ensures sound { F.sound files.old → O.sound out.old → F.sound files.new × O.sound out.new × IfErr result IsNoFault }
     ensures unchanged { IfErr result (λ stop. Unchanged stop
-        (seen (F.told files.old) (F.faults files.old) (O.taken out.old) (O.faults out.old))
-        (seen (F.told files.new) (F.faults files.new) (O.taken out.new) (O.faults out.new))) }
+        (seen (F.told files.old) (F.write_faults files.old) (O.taken out.old) (O.faults out.old))
+        (seen (F.told files.new) (F.write_faults files.new) (O.taken out.new) (O.faults out.new))) }
     ensures failed { IfErr result (λ stop. IfSome (F.told files.old) (λ m. LeftAtWrite (outcome (texts_of words.now) m)
-        (seen (F.told files.old) (F.faults files.old) (O.taken out.old) (O.faults out.old))
-        (seen (F.told files.new) (F.faults files.new) (O.taken out.new) (O.faults out.new)) stop)) }
+        (seen (F.told files.old) (F.write_faults files.old) (O.taken out.old) (O.faults out.old))
+        (seen (F.told files.new) (F.write_faults files.new) (O.taken out.new) (O.faults out.new)) stop)) }
     ensures part { IfErr result (λ _. IfSome (F.told files.old) (λ m. PartDelivered (outcome (texts_of words.now) m)
-        (seen (F.told files.old) (F.faults files.old) (O.taken out.old) (O.faults out.old))
-        (seen (F.told files.new) (F.faults files.new) (O.taken out.new) (O.faults out.new)))) }
+        (seen (F.told files.old) (F.write_faults files.old) (O.taken out.old) (O.faults out.old))
+        (seen (F.told files.new) (F.write_faults files.new) (O.taken out.new) (O.faults out.new)))) }
 {
     let plan = plan(alloc, words)?;
     match perform(alloc, &plan, files, seeds) {
@@ -58,7 +61,7 @@ pub fn run_tool<F: Files, O: Sink, E: Sink, M: Seeds>(
     seeds: &mut M,
 ) -> u8
     // Where the files are told and neither a fault nor want of memory is answered, the status, the files, the text on
-    // `out` and, where no fault of `err` was counted, the line on `err` are those of the answer. After 0 nothing is on `err`.
+    // `out` and, where no fault of `err` was counted, the line on `err` are those of the answer. After 0 nothing is put on `err`.
     ensures status { IsAnswered result → IfSome (F.told files.old) (λ m. result ≡ (answer (texts_of words.now) m).status) }
     ensures files { IsAnswered result → IfSome (F.told files.old) (λ m.
         F.told files.new ≡ put_files (answer (texts_of words.now) m).files (Some m)) }
@@ -81,31 +84,34 @@ pub fn run_tool<F: Files, O: Sink, E: Sink, M: Seeds>(
         E.taken err.new ≡ appended (E.taken err.old) (words_line (planned (texts_of words.now))) }
 
     // A fault is answered only where a count rose. Its line names a file that the words name, or the standard output.
-    ensures read_fault { result ≡ 6 → Rose (F.faults files.old) (F.faults files.new) }
-    ensures write_fault { result ≡ 8 → Rose (F.faults files.old) (F.faults files.new) ⊎ Rose (O.faults out.old) (O.faults out.new) }
-    ensures read_line { result ≡ 6 → ¬ (Rose (E.faults err.old) (E.faults err.new)) →
-        TookRead (planned (texts_of words.now)) (E.taken err.old) (E.taken err.new) }
-    ensures write_line { result ≡ 8 → ¬ (Rose (E.faults err.old) (E.faults err.new)) →
-        TookWrite (planned (texts_of words.now)) (F.faults files.old) (F.faults files.new) (O.faults out.old) (O.faults out.new)
-        (E.taken err.old) (E.taken err.new) }
+    ensures read_fault { result ≡ 6 → Rose (F.read_faults files.old) (F.read_faults files.new) }
+    ensures write_fault { result ≡ 8 → Rose (F.write_faults files.old) (F.write_faults files.new) ⊎ Rose (O.faults out.old) (O.faults out.new) }
+
+    // What a fault names. A file that was not read is one of the words, after files that are accepted; a file that was not
+    // written is the one whose write failed, with the files before it written and its name alone untold.
+    ensures failed_read { result ≡ 6 → FailedRead (planned (texts_of words.now)) (F.told files.old) (F.read_failed files.new)
+        (E.taken err.old) (E.taken err.new) (E.faults err.old) (E.faults err.new) }
+    ensures failed_write { result ≡ 8 → FailedWrite (planned (texts_of words.now)) (outcome (texts_of words.now))
+        (FailedAt (F.write_failed files.new) (F.write_faults files.old) (F.write_faults files.new))
+        (seen (F.told files.old) (F.write_faults files.old) (O.taken out.old) (O.faults out.old))
+        (seen (F.told files.new) (F.write_faults files.new) (O.taken out.new) (O.faults out.new))
+        (E.taken err.old) (E.taken err.new) (E.faults err.old) (E.faults err.new) }
 
     // What stays where nothing, or not all, was written.
     ensures unchanged { 0 < result → result < 7 → Untouched
-        (seen (F.told files.old) (F.faults files.old) (O.taken out.old) (O.faults out.old))
-        (seen (F.told files.new) (F.faults files.new) (O.taken out.new) (O.faults out.new)) }
+        (seen (F.told files.old) (F.write_faults files.old) (O.taken out.old) (O.faults out.old))
+        (seen (F.told files.new) (F.write_faults files.new) (O.taken out.new) (O.faults out.new)) }
     ensures part { 6 < result → IfSome (F.told files.old) (λ m. PartDelivered (outcome (texts_of words.now) m)
-        (seen (F.told files.old) (F.faults files.old) (O.taken out.old) (O.faults out.old))
-        (seen (F.told files.new) (F.faults files.new) (O.taken out.new) (O.faults out.new))) }
-    ensures failed_write { result ≡ 8 → IfSome (F.told files.old) (λ m. FailedDelivery (outcome (texts_of words.now) m)
-        (seen (F.told files.old) (F.faults files.old) (O.taken out.old) (O.faults out.old))
-        (seen (F.told files.new) (F.faults files.new) (O.taken out.new) (O.faults out.new))) }
+        (seen (F.told files.old) (F.write_faults files.old) (O.taken out.old) (O.faults out.old))
+        (seen (F.told files.new) (F.write_faults files.new) (O.taken out.new) (O.faults out.new))) }
 
     // Over files and an `out` that do not fail, no fault is answered.
-    ensures sound { F.sound files.old → O.sound out.old → (result ≢ 6) × (result ≢ 8) }
+    ensures sound { F.sound files.old → O.sound out.old → F.sound files.new × O.sound out.new × (result ≢ 6) × (result ≢ 8) }
 
     // With no fault counted, the answer is given, or memory was wanting.
-    ensures complete { ¬ (Rose (F.faults files.old) (F.faults files.new)) → ¬ (Rose (O.faults out.old) (O.faults out.new)) →
-        result ≢ 7 → IfSome (F.told files.old) (λ m. result ≡ (answer (texts_of words.now) m).status) }
+    ensures complete { ¬ (Rose (F.read_faults files.old) (F.read_faults files.new)) →
+        ¬ (Rose (F.write_faults files.old) (F.write_faults files.new)) → ¬ (Rose (O.faults out.old) (O.faults out.new)) → result ≢ 7 →
+        IfSome (F.told files.old) (λ m. result ≡ (answer (texts_of words.now) m).status) }
 {
     match carry_out(alloc, words, files, out, seeds) {
         Ok(()) => DONE,

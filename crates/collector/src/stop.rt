@@ -6,27 +6,35 @@ use crate::lines::{file_line, limit_line, no_memory_line, read_line, words_line,
 use commands::{WordReason, WordRefusal};
 use pb_wire::{NoMemory, Text};
 use std::alloc::{AllocError, Global};
+use thiserror::Error;
 
-/// What the answer refuses.
-#[derive(Drop)]
+/// What the answer refuses. `line` is what the tool prints; the display is for logs.
+#[derive(Debug, Drop, Error)]
 pub enum ToolRefusal {
     /// The words ask for nothing.
+    #[error("word {place}: {reason:?}")]
     Words { place: u32, reason: WordReason },
     /// A file is missing or no message; the text says why.
+    #[error("{}: {}", .name.as_str(), .text.as_str())]
     File { name: Text, text: Text },
     /// The output would have this number of bytes, which is above its limit.
+    #[error("output limit: {size} bytes")]
     Limit { size: u64 },
 }
 
-/// Why a run ended without its output.
-#[derive(Drop)]
+/// Why a run ended without its output. `line` is what the tool prints; the display is for logs.
+#[derive(Debug, Drop, Error)]
 pub enum Stop {
     /// The answer is a refusal.
+    #[error("{0}")]
     Refused(ToolRefusal),
     /// A file could not be read.
+    #[error("read failed: {}", .name.as_str())]
     Read { name: Text },
     /// A file, or the standard output, could not be written.
+    #[error("write failed: {}", .name.as_str())]
     Write { name: Text },
+    #[error("no memory")]
     NoMemory,
 }
 

@@ -1,5 +1,6 @@
 //! What a plan comes to: all is read and computed here, and nothing is written.
 ghost use Rattle.std.specs.Prelude.{◌≡◌, ◌≤◌, Ok, IfOk, IfErr, IfSome};
+ghost use Rattle.outside.specs.Causes.{FailedAt};
 ghost use Rattle.collector.specs.Answer.{performed};
 ghost use Rattle.commands.specs.Plan.{inputs, targets};
 ghost use Rattle.collector.specs.Delivery.{names_of};
@@ -25,8 +26,9 @@ pub fn perform<F: Files, M: Seeds>(
     ensures kept { IfOk result (λ output. IfSome (F.told files.old) (λ m. KeepsMeaning plan.now m output)) }
     ensures targets { IfOk result (λ output. names_of output.files ≡ targets plan.now) }
     ensures same { F.told files.new ≡ F.told files.old }
-    ensures cause { IfErr result (ReadCause (inputs plan.now) (F.faults files.old) (F.faults files.new)) }
-    ensures later { F.faults files.old ≤ F.faults files.new }
+    ensures cause { IfErr result (ReadCause (inputs plan.now) (F.told files.old) (FailedAt (F.read_failed files.new) (F.read_faults files.old) (F.read_faults files.new))) }
+    ensures later { F.read_faults files.old ≤ F.read_faults files.new }
+    ensures writes { F.write_faults files.new ≡ F.write_faults files.old }
     ensures sound { F.sound files.old → F.sound files.new × IfErr result IsNoFault }
 {
     match plan {

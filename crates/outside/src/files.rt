@@ -1,5 +1,5 @@
 //! Named files.
-ghost use Rattle.std.specs.Prelude.{◌≡◌, ◌+◌, ℕ, Option, None, IfOk, IfSome, OnOk, IsErrOf};
+ghost use Rattle.std.specs.Prelude.{◌≡◌, ◌+◌, ℕ, List, Option, None, IfOk, IfSome, OnOk, IsErrOf};
 ghost use Rattle.outside.specs.Causes.{Counted, NeverFails};
 ghost use Rattle.outside.specs.FileMap.{FileMap, got_of, IsWithin, written, SameBut};
 ghost use Rattle.outside.specs.Plan.{Plan, FollowsPlan};
@@ -36,6 +36,13 @@ pub trait Files {
     /// That is their sum.
     ghost summed: { (f : Self) → faults f ≡ read_faults f + write_faults f };
 
+    /// The last call was a read of this name, and it failed. Nothing is known of it but what `read` says, so code over any
+    /// files can name a failed read only where it was of that name, and where nothing was called since.
+    ghost read_failed: { Self → List ℕ → Type 0 } = { λ _ _. Unit {0} };
+
+    /// The same of a write.
+    ghost write_failed: { Self → List ℕ → Type 0 } = { λ _ _. Unit {0} };
+
     /// From here on no call fails.
     ghost sound: { Self → Type 0 };
 
@@ -49,6 +56,7 @@ pub trait Files {
         ensures same { told self.new ≡ told self.old }
         ensures cause { Counted (read_faults self.old) (read_faults self.new) result }
         ensures writes { write_faults self.new ≡ write_faults self.old }
+        ensures named { IsErrOf result IoFault.Failed → read_failed self.new name.now }
         ensures sound { sound self.old → sound self.new × NeverFails result }
         ensures planned { FollowsPlan (plan self.old) (plan self.new) (IsErrOf result IoFault.Failed) };
 
@@ -60,6 +68,7 @@ pub trait Files {
         ensures no_memory { IsErrOf result IoFault.NoMemory → told self.new ≡ told self.old }
         ensures cause { Counted (write_faults self.old) (write_faults self.new) result }
         ensures reads { read_faults self.new ≡ read_faults self.old }
+        ensures named { IsErrOf result IoFault.Failed → write_failed self.new name.now }
         ensures sound { sound self.old → sound self.new × NeverFails result }
         ensures planned { FollowsPlan (plan self.old) (plan self.new) (IsErrOf result IoFault.Failed) };
 }

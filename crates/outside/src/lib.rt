@@ -30,6 +30,3 @@ pub use sink::{Sink, put_all};
 pub use source::Source;
 pub use system_seeds::{SystemHasher, SystemSeeds};
 pub use writer_sink::WriterSink;
-
-#[cfg(test)]
-mod tests;

@@ -5,6 +5,3 @@ mod canonical;
 pub mod laws;
 
 pub use canonical::canon;
-
-#[cfg(test)]
-mod draft_tests;

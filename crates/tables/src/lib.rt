@@ -17,6 +17,3 @@ pub use mark::Mark;
 pub use searched_table::SearchedTable;
 pub use steps::Steps;
 pub use table::Table;
-
-#[cfg(test)]
-mod tests;

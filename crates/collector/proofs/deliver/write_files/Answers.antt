@@ -14,4 +14,4 @@ returns-in-Err-clause-left g c =
     left_at _ _ _ _ _ _ _ _ _ _ c.loop-name-test.true c.loop-name-item.is c.loop-name.invariant.told c.loop-name.invariant.later c.in-Err.ensures.left
 
 pub returns-in-Err-clause-named : goal.returns-in-Err-clause-named
-returns-in-Err-clause-named g c = named_at _ _ _ _ c.loop-name-test.true c.loop-name-item.is c.in-Err.ensures.named
+returns-in-Err-clause-named g c = named_at _ _ _ _ _ c.loop-name-test.true c.loop-name-item.is c.in-Err.ensures.named

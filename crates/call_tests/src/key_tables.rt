@@ -1,0 +1,149 @@
+//! Tables of keys: the hashed one and the searched one under the same calls.
+ghost use Rattle.std.specs.Prelude.{◌≡◌, ◌+◌, ◌<◌, ◌≤◌, [], length, OnOk};
+
+use pb_wire::{Blob, NoMemory};
+use std::alloc::Global;
+use std::hash::{BuildHasherDefault, FoldHasher};
+use std::marker::Brand;
+use std::process::Abort;
+use std::sync::ledger::{Blank, Ledger};
+use std::test::Fail;
+use tables::{EntryKey, Interner, SearchedTable, Steps, Table};
+
+// The hashed table with the fixed seed.
+type Hashed = Table<EntryKey, BuildHasherDefault<FoldHasher>>;
+
+// The searched table.
+type Searched = SearchedTable<EntryKey>;
+
+// The answer for a key of these bytes.
+fn ask<T: Interner<EntryKey>, L: Ledger>(
+    alloc: Global,
+    table: &mut T,
+    bytes: &[u8],
+    steps: &mut Steps<L>,
+) -> Result<u32, NoMemory>
+    requires { length (T.keys table.old) < 2000 }
+    ensures kept { length (T.keys table.old) ≤ length (T.keys table.new) }
+    ensures one { length (T.keys table.new) ≤ length (T.keys table.old) + 1 }
+    ensures counted { OnOk result (steps.new ≡ steps.old + 1) }
+{
+    let key = EntryKey::copy_of(alloc, bytes)?;
+    table.intern(key, steps)
+}
+
+// The answers for `a`, `b` and `a`. That they are three steps is proved.
+fn ask_three<T: Interner<EntryKey>, L: Ledger>(
+    alloc: Global,
+    table: &mut T,
+    steps: &mut Steps<L>,
+) -> Result<[u32; 3], NoMemory>
+    requires { length (T.keys table.old) < 1000 }
+    ensures { OnOk result (steps.new ≡ steps.old + 3) }
+{
+    let first = ask(alloc, table, b"a", steps)?;
+    let second = ask(alloc, table, b"b", steps)?;
+    let third = ask(alloc, table, b"a", steps)?;
+    Ok([first, second, third])
+}
+
+// In a table without keys.
+fn try_a_few<T: Interner<EntryKey>, L: Ledger>(
+    rt: &impl Abort,
+    alloc: Global,
+    table: &mut T,
+    blank: Blank,
+) -> Result<(), Fail>
+    requires name { blank.name ≡ L.name }
+    requires parts { blank.parts ≡ L.parts }
+    requires some { 0 < blank.parts }
+    requires empty { T.keys table.old ≡ [] }
+{
+    let mut steps = Steps::<L>::begin(blank);
+    let none = table.mark();
+    assert_eq!(rt; ask_three(alloc, table, &mut steps)?, [0, 1, 0]);
+    table.back_to(none);
+    assert_eq!(rt; ask(alloc, table, b"a", &mut steps)?, 0);
+    let mark = table.mark();
+    assert_eq!(rt; ask(alloc, table, b"b", &mut steps)?, 1);
+    assert_eq!(rt; table.len(), 2);
+    table.back_to(mark);
+    assert_eq!(rt; table.len(), 1);
+    let moved = EntryKey::from_blob(Blob::copy_of(alloc, b"b")?);
+    assert_eq!(rt; table.intern(moved, &mut steps)?, 1);
+    for (index, want) in [
+        (0, Some(b"a".as_slice())),
+        (1, Some(b"b".as_slice())),
+        (2, None),
+    ] {
+        let held = table.get(index).map(EntryKey::as_slice);
+        assert_eq!(rt; held, want, "at {index}");
+    }
+    Ok(())
+}
+
+// The next number of a simple generator.
+fn next_number(state: u32) -> u32 {
+    state.wrapping_mul(1_664_525).wrapping_add(1_013_904_223)
+}
+
+// The same calls on both tables: some hundred keys of one to three bytes, with repeats, and now and then a cut.
+fn try_both<A: Interner<EntryKey>, B: Interner<EntryKey>, L: Ledger>(
+    rt: &impl Abort,
+    alloc: Global,
+    hashed: &mut A,
+    searched: &mut B,
+    blank: Blank,
+) -> Result<(), Fail>
+    requires name { blank.name ≡ L.name }
+    requires parts { blank.parts ≡ L.parts }
+    requires some { 0 < blank.parts }
+{
+    let mut steps = Steps::<L>::begin(blank);
+    let mut state = 1u32;
+    for call in 0u32..900 {
+        state = next_number(state);
+        let bytes = (state / 65_536 % 300).to_le_bytes();
+        let key = &bytes[..1 + state as usize % 3];
+        assert!(rt; hashed.len() < 1000 && searched.len() < 1000);
+        let marks = (hashed.mark(), searched.mark());
+        let place = ask(alloc, hashed, key, &mut steps)?;
+        assert_eq!(rt;
+            place,
+            ask(alloc, searched, key, &mut steps)?,
+            "call {call}"
+        );
+        if call % 7 == 0 {
+            hashed.back_to(marks.0);
+            searched.back_to(marks.1);
+        }
+        assert_eq!(rt; hashed.len(), searched.len(), "call {call}");
+    }
+    for index in 0..hashed.len() + 1 {
+        let held = hashed.get(index).map(EntryKey::as_slice);
+        assert_eq!(rt;
+            held,
+            searched.get(index).map(EntryKey::as_slice),
+            "at {index}"
+        );
+    }
+    assert!(rt; hashed.len() > 300);
+    Ok(())
+}
+
+#[test]
+fn first_places_are_answered(rt: HostRuntime) -> Result<(), Fail> {
+    let alloc = rt.alloc();
+    let mut hashed = Table::begin(alloc, BuildHasherDefault::<FoldHasher>::new())?;
+    let mut searched = SearchedTable::begin(alloc);
+    try_a_few::<Hashed, Brand>(&rt, alloc, &mut hashed, Blank::new(1))?;
+    try_a_few::<Searched, Brand>(&rt, alloc, &mut searched, Blank::new(1))
+}
+
+#[test]
+fn both_tables_answer_the_same(rt: HostRuntime) -> Result<(), Fail> {
+    let alloc = rt.alloc();
+    let mut hashed = Table::begin(alloc, BuildHasherDefault::<FoldHasher>::new())?;
+    let mut searched = SearchedTable::begin(alloc);
+    try_both::<Hashed, Searched, Brand>(&rt, alloc, &mut hashed, &mut searched, Blank::new(1))
+}

@@ -1,0 +1,13 @@
+//! Tests of public calls that no command reaches. The crate holds nothing else.
+#![tactic(auto)]
+
+#[cfg(test)]
+mod drafts;
+#[cfg(test)]
+mod key_tables;
+#[cfg(test)]
+mod records;
+#[cfg(test)]
+mod tool;
+#[cfg(test)]
+mod wire;

@@ -1,5 +1,0 @@
--- The ledger of the test's counter.
-use Rattle.split_merge.proofs.draft_tests.a_refused_message_leaves_the_draft.Given as goal
-
-abbrev pub ghosts-try_too_long : goal.ghosts-try_too_long
-ghosts-try_too_long g a = record { name = a.blank.name; parts = a.blank.parts }
