@@ -1,5 +1,5 @@
 //! Why a line is no case.
-use pb_wire::NoMemory;
+use pb_wire::{NoMemory, ReadFault};
 use row_text::RowFault;
 use std::alloc::AllocError;
 use std::num::ParseIntError;
@@ -20,6 +20,8 @@ pub enum CaseFault {
     Number(#[from] ParseIntError),
     #[error(transparent)]
     Bytes(#[from] RowFault),
+    #[error(transparent)]
+    Read(#[from] ReadFault),
     #[error(transparent)]
     Alloc(#[from(alloc)] AllocError),
     #[error(transparent)]

@@ -12,8 +12,8 @@ use prof_rec::{Profile, Resource, ResourceProfiles, Sample, Scope, ScopeProfiles
 use std::alloc::Global;
 
 /// What comes of the record with this name.
-pub fn told(alloc: Global, record: &str, payloads: &Payloads) -> Result<String, CaseFault> {
-    match record {
+pub fn told(alloc: Global, name: &str, payloads: &Payloads) -> Result<String, CaseFault> {
+    match name {
         "mapping" => rewritten::<Mapping>(alloc, payloads),
         "location" => rewritten::<Location>(alloc, payloads),
         "line" => rewritten::<Line>(alloc, payloads),
@@ -22,13 +22,13 @@ pub fn told(alloc: Global, record: &str, payloads: &Payloads) -> Result<String, 
         "attribute" => rewritten::<Attr>(alloc, payloads),
         "stack" => rewritten::<Stack>(alloc, payloads),
         "dictionary" => rewritten::<Dictionary>(alloc, payloads),
-        _ => told_of_profiles(alloc, record, payloads),
+        _ => told_of_profiles(alloc, name, payloads),
     }
 }
 
 // The same of the records of profiles, and of messages.
-fn told_of_profiles(alloc: Global, record: &str, payloads: &Payloads) -> Result<String, CaseFault> {
-    match record {
+fn told_of_profiles(alloc: Global, name: &str, payloads: &Payloads) -> Result<String, CaseFault> {
+    match name {
         "value-type" => rewritten::<ValueType>(alloc, payloads),
         "sample" => rewritten::<Sample>(alloc, payloads),
         "profile" => rewritten::<Profile>(alloc, payloads),
@@ -53,12 +53,12 @@ fn rewritten<T: Wire>(alloc: Global, payloads: &Payloads) -> Result<String, Case
 }
 
 // The canonical bytes of a record, and the length that it tells of them.
-fn written<T: Wire>(alloc: Global, record: &T) -> Result<String, CaseFault>
-    requires { length (spell T.shape (T.view record.now)) < 2 ^ 63 }
+fn written<T: Wire>(alloc: Global, message: &T) -> Result<String, CaseFault>
+    requires { length (spell T.shape (T.view message.now)) < 2 ^ 63 }
 {
     let mut out = Blob::begin(alloc);
-    record.write(&mut out)?;
+    message.write(&mut out)?;
     let bytes = shown(alloc, out.as_slice())?;
-    let len = record.written_len();
+    let len = message.written_len();
     Ok(format!(in alloc; "{bytes}, {len} bytes")?)
 }

@@ -8,7 +8,7 @@ use crate::payloads::{Payload, Payloads, shown};
 use any_value::{
     Value, decode_value, encode_value, is_same_value, put_value, value_len, value_row_len,
 };
-use pb_wire::{Blob, Pieces, ReadFault};
+use pb_wire::{Blob, Pieces};
 use std::alloc::Global;
 use std::hash::{DefaultHasher, Hash, Hasher};
 
@@ -58,20 +58,17 @@ pub fn copy_told(alloc: Global, payloads: &Payloads) -> Result<String, CaseFault
 /// Whether the values of two payloads are equal.
 pub fn equal_told(alloc: Global, data: &str) -> Result<String, CaseFault> {
     let (one, other) = data.split_once(' ').ok_or(CaseFault::Missing)?;
-    let one = Payload::of(alloc, one)?;
-    let other = Payload::of(alloc, other)?;
-    let values = (value_of(alloc, &one)?, value_of(alloc, &other)?);
-    match values {
-        (Ok(one), Ok(other)) => compared(alloc, &one, &other),
-        (Err(fault), _) | (_, Err(fault)) => Ok(format!(in alloc; "{fault}")?),
-    }
+    let one = value_of(alloc, one)?;
+    let other = value_of(alloc, other)?;
+    compared(alloc, &one, &other)
 }
 
 // The value of one payload.
-fn value_of(alloc: Global, payload: &Payload) -> Result<Result<Value, ReadFault>, CaseFault> {
+fn value_of(alloc: Global, word: &str) -> Result<Value, CaseFault> {
+    let payload = Payload::of(alloc, word)?;
     let mut pieces = Pieces::begin(alloc);
     pieces.add(payload.piece())?;
-    Ok(decode_value(alloc, &pieces, 1))
+    Ok(decode_value(alloc, &pieces, 1)?)
 }
 
 // Whether two values are equal, and if so whether their hashes are.
