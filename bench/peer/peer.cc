@@ -1,29 +1,48 @@
-// Reads a message into objects with Protocol Buffers' own library and writes it out again: `peer IN OUT`.
+// Reads a message into objects with Protocol Buffers' own library and writes it out again: `peer heap|arena IN OUT`.
+// With `heap` each object is allocated by itself, with `arena` all of them stand in one arena.
+#include <google/protobuf/arena.h>
+
 #include <fstream>
 #include <iostream>
 #include <string>
 
 #include "profiles.pb.h"
 
-int main(int argc, char **argv) {
-  if (argc != 3) {
-    std::cerr << "peer IN OUT\n";
-    return 1;
+using google::protobuf::Arena;
+
+int rewrite(peer::ProfilesData &message, const char *in, const char *out) {
+  std::ifstream source(in, std::ios::binary | std::ios::ate);
+  if (!source) {
+    std::cerr << "no file " << in << "\n";
+    return 2;
   }
-  std::ifstream source(argv[1], std::ios::binary | std::ios::ate);
   std::string bytes(source.tellg(), '\0');
   source.seekg(0);
   source.read(bytes.data(), bytes.size());
-  peer::ProfilesData message;
   if (!message.ParseFromString(bytes)) {
-    std::cerr << "no message\n";
+    std::cerr << "not a message: " << in << "\n";
     return 2;
   }
   std::string written;
   if (!message.SerializeToString(&written)) {
     return 5;
   }
-  std::ofstream target(argv[2], std::ios::binary);
+  std::ofstream target(out, std::ios::binary);
   target << written;
-  return target.good() ? 0 : 8;
+  target.close();
+  return target ? 0 : 8;
+}
+
+int main(int argc, char **argv) {
+  std::string allocation = argc == 4 ? argv[1] : "";
+  if (allocation == "heap") {
+    peer::ProfilesData message;
+    return rewrite(message, argv[2], argv[3]);
+  }
+  if (allocation == "arena") {
+    Arena arena;
+    return rewrite(*Arena::CreateMessage<peer::ProfilesData>(&arena), argv[2], argv[3]);
+  }
+  std::cerr << "peer heap|arena IN OUT\n";
+  return 1;
 }
