@@ -3,11 +3,11 @@ use Rattle.dict_build.proofs.new_tables.zero_tables.Goals as goal
 
 pub returns : goal.returns
 returns g c = elim [
-  | Mappings ↦ c.in_ok-mappings.ensures
-  | Locations ↦ c.in_ok-locations.ensures
-  | Functions ↦ c.in_ok-functions.ensures
-  | Links ↦ c.in_ok-links.ensures
-  | Strings ↦ c.in_ok-strings.ensures
-  | Attributes ↦ c.in_ok-attributes.ensures
-  | Stacks ↦ c.in_ok-stacks.ensures
+  | Mappings ↦ c.in_ok-mappings.ensures.first.0
+  | Locations ↦ c.in_ok-mappings.ensures.first.1
+  | Functions ↦ c.in_ok-mappings.ensures.second.0
+  | Links ↦ c.in_ok-mappings.ensures.second.1
+  | Strings ↦ c.in_ok-strings.ensures.pair.0
+  | Attributes ↦ c.in_ok-strings.ensures.pair.1
+  | Stacks ↦ c.in_ok-strings.ensures.one
 ]
