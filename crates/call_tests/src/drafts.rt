@@ -95,7 +95,11 @@ fn try_too_long<L: Ledger>(rt: &impl Abort, alloc: Global, blank: Blank) -> Resu
 }
 
 #[test]
-fn messages_join_a_draft_or_leave_it_as_it_was(rt: HostRuntime) -> Result<(), Fail> {
-    try_two::<Brand>(&rt, rt.alloc(), Blank::new(1))?;
+fn a_draft_joins_messages(rt: HostRuntime) -> Result<(), Fail> {
+    try_two::<Brand>(&rt, rt.alloc(), Blank::new(1))
+}
+
+#[test]
+fn a_refused_message_leaves_the_draft(rt: HostRuntime) -> Result<(), Fail> {
     try_too_long::<Brand>(&rt, rt.alloc(), Blank::new(1))
 }

@@ -88,6 +88,6 @@ fn output_of_one(alloc: Global, target: &Text, bytes: Blob) -> Result<Output, No
 {
     let lines = wrote_line(alloc, target.as_str(), bytes.len())?;
     let mut files = Writes::begin(alloc);
-    files.add(Text::copy_of(alloc, target.as_str())?, bytes)?;
+    files.add((Text::copy_of(alloc, target.as_str())?, bytes))?;
     Ok(Output { files, lines })
 }

@@ -83,13 +83,14 @@ pub fn run_tool<F: Files, O: Sink, E: Sink, M: Seeds>(
     ensures words_line { result ≡ 1 → ¬ (Rose (E.faults err.old) (E.faults err.new)) →
         E.taken err.new ≡ appended (E.taken err.old) (words_line (planned (texts_of words.now))) }
 
-    // A fault is answered only where a count rose. Its line names a file that the words name, or the standard output.
+    // A fault is answered only where a count rose.
     ensures read_fault { result ≡ 6 → Rose (F.read_faults files.old) (F.read_faults files.new) }
     ensures write_fault { result ≡ 8 → Rose (F.write_faults files.old) (F.write_faults files.new) ⊎ Rose (O.faults out.old) (O.faults out.new) }
 
-    // What a fault names. A file that was not read is one of the words, after files that are accepted; a file that was not
-    // written is the one whose write failed, with the files before it written and its name alone untold.
-    ensures failed_read { result ≡ 6 → FailedRead (planned (texts_of words.now)) (F.told files.old) (F.read_failed files.new)
+    // What a fault names. A file that was not read is one of the words; its read failed, and those before it are accepted. A
+    // file that was not written is the one whose write failed, with the files before it written and its name alone untold.
+    ensures failed_read { result ≡ 6 → FailedRead (planned (texts_of words.now)) (F.told files.old)
+        (FailedAt (F.read_failed files.new) (F.read_faults files.old) (F.read_faults files.new))
         (E.taken err.old) (E.taken err.new) (E.faults err.old) (E.faults err.new) }
     ensures failed_write { result ≡ 8 → FailedWrite (planned (texts_of words.now)) (outcome (texts_of words.now))
         (FailedAt (F.write_failed files.new) (F.write_faults files.old) (F.write_faults files.new))

@@ -2,10 +2,12 @@
 ghost use Rattle.std.specs.Prelude.{◌≡◌, ◌++◌, ◌∷◌, [], Ok, IfOk, IfErr, OnOk};
 ghost use Rattle.commands.specs.Plan.{planned, some_words, two_words, texts_of, IsWordRefusal};
 
-use crate::Texts;
-use pb_wire::{NoMemory, Text};
+use pb_wire::{List, NoMemory, Text};
 use std::alloc::Global;
 use thiserror::Error;
+
+/// Texts in order.
+pub type Texts = List<Text>;
 
 /// What the words ask for.
 #[derive(Drop)]

@@ -12,7 +12,7 @@ ghost use Rattle.dict_build.specs.Renumbered.{Keys, IsPart, IsReady, IsSource, S
 use crate::renumbering::{Known, Renumbering};
 use any_value::put_value;
 use dict_rec::{Attr, Dictionary, Function, Line, Location, Mapping, Stack, TableKind};
-use pb_wire::{Blob, NoMemory, Repeated, Wire, put_number};
+use pb_wire::{Blob, List, NoMemory, Wire, put_number};
 use std::alloc::Global;
 use std::hash::BuildHasher;
 use std::sync::ledger::Ledger;
@@ -147,9 +147,9 @@ impl<S: BuildHasher + Drop> Renumbering<S> {
         &mut self,
         alloc: Global,
         old: &Dictionary,
-        indexes: &Repeated<i32>,
+        indexes: &List<i32>,
         steps: &mut Steps<L>,
-    ) -> Result<Repeated<i32>, NoMemory>
+    ) -> Result<List<i32>, NoMemory>
         requires ready { IsReady old.now self.old.tables self.old.met }
         requires source { IsSource old.now }
         requires parts { Each (IsPart (index_into Attributes) old.now) (indexes_view indexes.now) }
@@ -157,7 +157,7 @@ impl<S: BuildHasher + Drop> Renumbering<S> {
         ensures kept { (base : Keys) → Begins base self.old.tables → Begins base self.new.tables }
         ensures steps { IfOk result (λ news. StepEach (index_into Attributes) old.now self.old.tables self.new.tables (indexes_view indexes.now) (indexes_view news)) }
     {
-        let mut news = Repeated::begin(alloc);
+        let mut news = List::begin(alloc);
         for index in indexes.as_slice() {
             let new = match self.attribute(alloc, old, *index, steps) {
                 Ok(new) => new,
@@ -302,9 +302,9 @@ impl<S: BuildHasher + Drop> Renumbering<S> {
         &mut self,
         alloc: Global,
         old: &Dictionary,
-        found: &Repeated<Line>,
+        found: &List<Line>,
         steps: &mut Steps<L>,
-    ) -> Result<Repeated<Line>, NoMemory>
+    ) -> Result<List<Line>, NoMemory>
         requires ready { IsReady old.now self.old.tables self.old.met }
         requires source { IsSource old.now }
         requires parts { Each (IsPart line old.now) (map line_view found.now) }
@@ -312,7 +312,7 @@ impl<S: BuildHasher + Drop> Renumbering<S> {
         ensures kept { (base : Keys) → Begins base self.old.tables → Begins base self.new.tables }
         ensures steps { IfOk result (λ news. StepEach line old.now self.old.tables self.new.tables (map line_view found.now) (map line_view news)) }
     {
-        let mut news = Repeated::begin(alloc);
+        let mut news = List::begin(alloc);
         for line in found.as_slice() {
             let new = match self.line(alloc, old, line, steps) {
                 Ok(new) => new,
@@ -382,9 +382,9 @@ impl<S: BuildHasher + Drop> Renumbering<S> {
         &mut self,
         alloc: Global,
         old: &Dictionary,
-        indexes: &Repeated<i32>,
+        indexes: &List<i32>,
         steps: &mut Steps<L>,
-    ) -> Result<Repeated<i32>, NoMemory>
+    ) -> Result<List<i32>, NoMemory>
         requires ready { IsReady old.now self.old.tables self.old.met }
         requires source { IsSource old.now }
         requires parts { Each (IsPart (index_into Locations) old.now) (indexes_view indexes.now) }
@@ -392,7 +392,7 @@ impl<S: BuildHasher + Drop> Renumbering<S> {
         ensures kept { (base : Keys) → Begins base self.old.tables → Begins base self.new.tables }
         ensures steps { IfOk result (λ news. StepEach (index_into Locations) old.now self.old.tables self.new.tables (indexes_view indexes.now) (indexes_view news)) }
     {
-        let mut news = Repeated::begin(alloc);
+        let mut news = List::begin(alloc);
         for index in indexes.as_slice() {
             let new = match self.location(alloc, old, *index, steps) {
                 Ok(new) => new,

@@ -12,8 +12,8 @@ ghost use Rattle.dict_build.specs.Renumbered.{HeadedTexts, IsPart, IsReady, IsSo
 use crate::renumbering::Renumbering;
 use dict_rec::Dictionary;
 use pb_wire::{
-    Blob, NoMemory, Payload, Repeated, put_bytes, put_field, put_fixed, put_fixed_list,
-    put_message, put_number, put_numbers, put_text,
+    Blob, List, NoMemory, Payload, put_bytes, put_field, put_fixed, put_fixed_list, put_message,
+    put_number, put_numbers, put_text,
 };
 use prof_rec::{Profile, ResourceProfiles, Sample, ScopeProfiles, ValueType};
 use std::alloc::Global;
@@ -27,7 +27,7 @@ fn sample_with(
     alloc: Global,
     found: &Sample,
     stack_index: i32,
-    attribute_indices: &Repeated<i32>,
+    attribute_indices: &List<i32>,
     link_index: i32,
 ) -> Result<Blob, NoMemory>
     requires { len_onto sample 0 (sample_with found.now stack_index attribute_indices.now link_index) < 2 ^ 63 }
@@ -50,7 +50,7 @@ fn profile_with(
     sample_type: &ValueType,
     samples: &Blob,
     period_type: &ValueType,
-    attribute_indices: &Repeated<i32>,
+    attribute_indices: &List<i32>,
 ) -> Result<Blob, NoMemory>
     requires { len_onto later_rows (length (bytes_field 1 (spell value_type (value_type_view sample_type.now))) + length samples.now) (later_with found.now period_type.now attribute_indices.now) < 2 ^ 63 }
     ensures { IfOk result (λ text. text ≡ spell_onto later_rows (bytes_field 1 (spell value_type (value_type_view sample_type.now)) ++ samples.now) (later_with found.now period_type.now attribute_indices.now)) }
@@ -120,7 +120,7 @@ impl<S: BuildHasher + Drop> Renumbering<S> {
         &mut self,
         alloc: Global,
         old: &Dictionary,
-        found: &Repeated<Sample>,
+        found: &List<Sample>,
         steps: &mut Steps<L>,
     ) -> Result<Blob, NoMemory>
         requires ready { IsReady old.now self.old.tables self.old.met }

@@ -9,7 +9,7 @@ ghost use Rattle.dict_rec.specs.Views.{dictionary_view};
 
 use crate::{Attr, Function, Link, Location, Mapping, Stack};
 use pb_wire::{
-    Blob, Field, NoMemory, Pieces, ReadFault, Repeated, Text, Wire, add_message, add_text,
+    Blob, Field, List, NoMemory, Pieces, ReadFault, Text, Wire, add_message, add_text,
     messages_len, put_messages, put_text_list, text_list_len,
 };
 use std::alloc::Global;
@@ -17,13 +17,13 @@ use std::alloc::Global;
 /// The seven tables, into which the records and the entries of other tables point.
 #[derive(Debug, Drop)]
 pub struct Dictionary {
-    pub mapping_table: Repeated<Mapping>,
-    pub location_table: Repeated<Location>,
-    pub function_table: Repeated<Function>,
-    pub link_table: Repeated<Link>,
-    pub string_table: Repeated<Text>,
-    pub attribute_table: Repeated<Attr>,
-    pub stack_table: Repeated<Stack>,
+    pub mapping_table: List<Mapping>,
+    pub location_table: List<Location>,
+    pub function_table: List<Function>,
+    pub link_table: List<Link>,
+    pub string_table: List<Text>,
+    pub attribute_table: List<Attr>,
+    pub stack_table: List<Stack>,
 }
 
 /// The kinds of tables, in the order of the dictionary's fields.
@@ -49,13 +49,13 @@ impl Wire for Dictionary {
 
     fn none(alloc: Global) -> Dictionary {
         Dictionary {
-            mapping_table: Repeated::begin(alloc),
-            location_table: Repeated::begin(alloc),
-            function_table: Repeated::begin(alloc),
-            link_table: Repeated::begin(alloc),
-            string_table: Repeated::begin(alloc),
-            attribute_table: Repeated::begin(alloc),
-            stack_table: Repeated::begin(alloc),
+            mapping_table: List::begin(alloc),
+            location_table: List::begin(alloc),
+            function_table: List::begin(alloc),
+            link_table: List::begin(alloc),
+            string_table: List::begin(alloc),
+            attribute_table: List::begin(alloc),
+            stack_table: List::begin(alloc),
         }
     }
 

@@ -5,7 +5,7 @@ ghost use Rattle.dict_rec.specs.Views.{location_view};
 
 use crate::Line;
 use pb_wire::{
-    Blob, Field, NoMemory, ReadFault, Repeated, Wire, add_message, add_number, messages_len,
+    Blob, Field, List, NoMemory, ReadFault, Wire, add_message, add_number, messages_len,
     number_len, numbers_len, put_messages, put_number, put_numbers, take_number,
 };
 use std::alloc::Global;
@@ -17,9 +17,9 @@ pub struct Location {
     pub mapping_index: i32,
     pub address: u64,
     /// The lines, from the innermost call on: each was inlined into the one behind it.
-    pub lines: Repeated<Line>,
+    pub lines: List<Line>,
     /// Indexes into the attribute table.
-    pub attribute_indices: Repeated<i32>,
+    pub attribute_indices: List<i32>,
 }
 
 impl Wire for Location {
@@ -35,8 +35,8 @@ impl Wire for Location {
         Location {
             mapping_index: 0,
             address: 0,
-            lines: Repeated::begin(alloc),
-            attribute_indices: Repeated::begin(alloc),
+            lines: List::begin(alloc),
+            attribute_indices: List::begin(alloc),
         }
     }
 

@@ -4,8 +4,8 @@ ghost use Rattle.schema.specs.Messages.{mapping};
 ghost use Rattle.dict_rec.specs.Views.{mapping_view};
 
 use pb_wire::{
-    Blob, Field, NoMemory, ReadFault, Repeated, Wire, add_number, number_len, numbers_len,
-    put_number, put_numbers, take_number,
+    Blob, Field, List, NoMemory, ReadFault, Wire, add_number, number_len, numbers_len, put_number,
+    put_numbers, take_number,
 };
 use std::alloc::Global;
 
@@ -21,7 +21,7 @@ pub struct Mapping {
     /// The name of the file, an index into the string table.
     pub filename_strindex: i32,
     /// Indexes into the attribute table.
-    pub attribute_indices: Repeated<i32>,
+    pub attribute_indices: List<i32>,
 }
 
 impl Wire for Mapping {
@@ -39,7 +39,7 @@ impl Wire for Mapping {
             memory_limit: 0,
             file_offset: 0,
             filename_strindex: 0,
-            attribute_indices: Repeated::begin(alloc),
+            attribute_indices: List::begin(alloc),
         }
     }
 

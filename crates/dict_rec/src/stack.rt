@@ -3,16 +3,14 @@ ghost use Rattle.std.specs.Prelude.{refl};
 ghost use Rattle.schema.specs.Messages.{stack};
 ghost use Rattle.dict_rec.specs.Views.{stack_view};
 
-use pb_wire::{
-    Blob, Field, NoMemory, ReadFault, Repeated, Wire, add_number, numbers_len, put_numbers,
-};
+use pb_wire::{Blob, Field, List, NoMemory, ReadFault, Wire, add_number, numbers_len, put_numbers};
 use std::alloc::Global;
 
 /// A stack of the dictionary.
 #[derive(Debug, Drop)]
 pub struct Stack {
     /// The locations from the innermost call on, indexes into the location table.
-    pub location_indices: Repeated<i32>,
+    pub location_indices: List<i32>,
 }
 
 impl Wire for Stack {
@@ -26,7 +24,7 @@ impl Wire for Stack {
 
     fn none(alloc: Global) -> Stack {
         Stack {
-            location_indices: Repeated::begin(alloc),
+            location_indices: List::begin(alloc),
         }
     }
 

@@ -5,6 +5,7 @@ pub mod Inside
 pub mod InOrder
 pub mod Lengths
 pub mod Places
+pub mod Relations
 pub mod Walked
 pub mod Zeros
 pub mod Plain

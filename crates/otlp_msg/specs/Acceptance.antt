@@ -1,11 +1,15 @@
 -- When the bytes of a file are a message, and when each refusal comes, in the words of the encoding and of the schema.
-use Rattle.std.specs.Prelude.{◌≡◌, ℕ, ℤ, ◌≤◌, List, ◌∷◌, ◌++◌, length}
+use Rattle.std.specs.Prelude.{◌≡◌, ℕ, ℤ, ◌≤◌, ◌<◌, List, ◌∷◌, ◌++◌, length}
 use Rattle.schema.specs.Each.{Each}
+use Rattle.schema.specs.MessageFault.{HasFault}
 use Rattle.schema.specs.Messages.{envelope}
 use Rattle.schema.specs.Shape.{empty}
 use Rattle.schema.specs.Value.{IsRead}
+use Rattle.pb_wire.specs.View.{fault_view}
 use Rattle.dict_rec.specs.declared.dictionary.TableKind.{TableKind}
 use Rattle.otlp_msg.specs.declared.path.Path.{Path}
+use Rattle.otlp_msg.specs.declared.refusal.Refusal.{Refusal}
+use Rattle.otlp_msg.specs.declared.refusal.Refusal.TheVariants.{Size, Wire, ZeroEntry, Dangling, NoMemory}
 use Rattle.otlp_msg.specs.Message.{Message, message_limit, dictionary_of}
 use Rattle.otlp_msg.specs.Walk.{Spot, IsInside, lengths_in, message_spots}
 use Rattle.otlp_msg.specs.ZeroEntries.{HasZeroEntry, all_tables}
@@ -46,3 +50,12 @@ pub record IsDangling (body : List ℕ) (table : TableKind) (index : ℤ) (len :
   pub its_index : index ≡ spot.index
   pub its_length : len ≡ lengths_in (dictionary_of message) table
   pub its_path : path ≡ spot.path
+
+-- why the bytes are no message: there are too many, else they have this first fault, else this is their first table that begins
+-- with another entry, else this is the first index that is not in its table; out of memory is free
+abbrev pub IsRefusedFor : List ℕ → Refusal → Type 0
+IsRefusedFor body (Size len) = (message_limit < length body) × (len ≡ length body)
+IsRefusedFor body (Wire fault) = (length body ≤ message_limit) × HasFault envelope 0 body (fault_view fault)
+IsRefusedFor body (ZeroEntry table) = IsNotZero body table
+IsRefusedFor body (Dangling table index len path) = IsDangling body table index len path
+IsRefusedFor body NoMemory = Unit {0}

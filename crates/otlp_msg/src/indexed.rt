@@ -10,7 +10,7 @@ ghost use Rattle.otlp_msg.specs.Within.{each_within, value_within, HasPlaces};
 use crate::table_lengths::TableLengths;
 use crate::{Holder, Refusal};
 use dict_rec::TableKind;
-use pb_wire::{Repeated, Wire};
+use pb_wire::{List, Wire};
 
 /// A record that may hold indexes. An implementation gives one line for each row that holds some.
 pub(crate) trait Indexed: Wire {
@@ -25,7 +25,7 @@ impl TableLengths {
     pub fn test_list(
         &self,
         table: TableKind,
-        indexes: &Repeated<i32>,
+        indexes: &List<i32>,
         holder: Holder,
         field: u32,
     ) -> Result<(), Refusal>
@@ -43,7 +43,7 @@ impl TableLengths {
     /// Tests the indexes of the elements of a repeated message.
     pub fn test_each<T: Indexed>(
         &self,
-        elements: &Repeated<T>,
+        elements: &List<T>,
         holder: Holder,
         field: u32,
     ) -> Result<(), Refusal>
@@ -64,7 +64,7 @@ impl TableLengths {
     pub fn test_entries<T: Indexed>(
         &self,
         table: TableKind,
-        entries: &Repeated<T>,
+        entries: &List<T>,
     ) -> Result<(), Refusal>
         requires few { length entries.now < 2 ^ 32 }
         requires each { Each (λ x. HasPlaces T.shape x × (length (spell T.shape x) < 2 ^ 32)) (map T.view entries.now) }

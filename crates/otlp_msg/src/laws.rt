@@ -1,6 +1,7 @@
 //! What it means that bytes are a message, in the words of the encoding and of the schema. The law stands on a public
 //! function with no body; its lemmas are in `proofs/`.
-ghost use Rattle.std.specs.Prelude.{◌≡◌, ◌↔◌, ◌<◌, ◌≤◌, ℕ, ℤ, List, length, Ok, Err};
+ghost use Rattle.std.specs.Prelude.{◌≡◌, ◌↔◌, ◌<◌, ◌≤◌, ℕ, ℤ, List, All, length, Ok, Err};
+ghost use Rattle.schema.specs.Fits.{Fits};
 ghost use Rattle.schema.specs.MessageFault.{HasFault};
 ghost use Rattle.schema.specs.Messages.{envelope};
 ghost use Rattle.pb_wire.specs.View.{fault_view};
@@ -13,9 +14,11 @@ ghost use Rattle.otlp_msg.specs.declared.refusal.Refusal.TheVariants.{Size, Wire
 
 /// Bytes are a message exactly if they are accepted, and each refusal says exactly what is wrong with them: there are too
 /// many, else they have this first fault, else this is their first table that doesn't begin with its zero entry, else this
-/// is the first index of the walk that is not in its table. Want of memory is never what is wrong with them.
+/// is the first index of the walk that is not in its table. Out of memory is never what is wrong with them. What is accepted is
+/// in its ranges, and its AnyValues are not too deep (`ranges`), so it can be written and read again.
 pub fn accepts_exactly()
     ensures accepted { (body : List ℕ) → (m : Message) → (message_of body ≡ Ok m) ↔ IsAccepted body m }
+    ensures ranges { (body : List ℕ) → (m : Message) → All (λ b. b < 256) body → message_of body ≡ Ok m → Fits envelope m }
     ensures size { (body : List ℕ) → (len : ℕ) → (message_of body ≡ Err (Size len)) ↔ ((message_limit < length body) × (len ≡ length body)) }
     ensures wire { (body : List ℕ) → (f : WireFault) → (message_of body ≡ Err (Wire f)) ↔ ((length body ≤ message_limit) × HasFault envelope 0 body (fault_view f)) }
     ensures zero_entry { (body : List ℕ) → (table : TableKind) → (message_of body ≡ Err (ZeroEntry table)) ↔ IsNotZero body table }

@@ -5,7 +5,7 @@ ghost use Rattle.otlp_msg.specs.Views.{message_view};
 
 use dict_rec::Dictionary;
 use pb_wire::{
-    Blob, Field, NoMemory, ReadFault, Repeated, Wire, add_message, message_len, messages_len,
+    Blob, Field, List, NoMemory, ReadFault, Wire, add_message, message_len, messages_len,
     put_message, put_messages, take_message,
 };
 use prof_rec::{ResourceList, ResourceProfiles};
@@ -29,7 +29,7 @@ impl Wire for Message {
 
     fn none(alloc: Global) -> Message {
         Message {
-            records: Repeated::begin(alloc),
+            records: List::begin(alloc),
             dictionary: Dictionary::none(alloc),
         }
     }

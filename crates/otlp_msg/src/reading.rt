@@ -1,5 +1,6 @@
 //! Reading a message.
 ghost use Rattle.std.specs.Prelude.{◌≡◌, Ok, IfOk, IfErr};
+ghost use Rattle.otlp_msg.specs.Acceptance.{IsAccepted, IsRefusedFor};
 ghost use Rattle.otlp_msg.specs.Checked.{body_of, value_of};
 ghost use Rattle.otlp_msg.specs.Message.{IsRefusal, message_of};
 ghost use Rattle.otlp_msg.specs.Refusals.{refusal_of as refusal_of_fault};
@@ -16,6 +17,18 @@ pub const MESSAGE_LIMIT: u64 = 33_554_432;
 /// The message that the bytes of a file are, or the first reason why they are none: their size, then their first fault, then
 /// the first table whose first entry isn't the zero value, then the first index of the walk that is in no table.
 pub fn read_message<'a>(alloc: Global, body: &'a [u8]) -> Result<Checked<'a>, Refusal>
+    ensures body { IfOk result (λ c. body_of c ≡ body.now) }
+    ensures ok { IfOk result (λ c. message_of body.now ≡ Ok (value_of c)) }
+    ensures refused { IfErr result (IsRefusal (message_of body.now)) }
+    // The same in the words of the encoding and of the schema.
+    ensures accepted { IfOk result (λ c. IsAccepted body.now (value_of c)) }
+    ensures why { IfErr result (IsRefusedFor body.now) }
+{
+    tested_message(alloc, body)
+}
+
+// The tests, one after the other.
+fn tested_message<'a>(alloc: Global, body: &'a [u8]) -> Result<Checked<'a>, Refusal>
     ensures body { IfOk result (λ c. body_of c ≡ body.now) }
     ensures ok { IfOk result (λ c. message_of body.now ≡ Ok (value_of c)) }
     ensures refused { IfErr result (IsRefusal (message_of body.now)) }

@@ -10,7 +10,7 @@ ghost use Rattle.otlp_msg.specs.Within.{HasPlaces};
 ghost use Rattle.otlp_msg.specs.ZeroEntries.{all_tables, begins_with_zero as begins_with_zero_of, first_other};
 
 use dict_rec::{Dictionary, TableKind};
-use pb_wire::{Repeated, Text, Wire};
+use pb_wire::{List, Text, Wire};
 
 /// The first table, in the order of the dictionary's fields, whose first entry isn't the zero value. It takes no memory.
 pub(crate) fn first_other_zero(tables: &Dictionary) -> Option<TableKind>
@@ -43,7 +43,7 @@ pub(crate) fn first_other_zero(tables: &Dictionary) -> Option<TableKind>
 }
 
 // Whether the first entry, if there is one, is the zero value, whose spelling alone is empty.
-fn begins_with_zero<T: Wire>(entries: &Repeated<T>) -> bool
+fn begins_with_zero<T: Wire>(entries: &List<T>) -> bool
     requires { Each (λ x. Fits T.shape x × (length (spell T.shape x) < 2 ^ 32)) (map T.view entries.now) }
     ensures { result ≡ begins_with_zero_of T.shape (map T.view entries.now) }
 {
@@ -54,7 +54,7 @@ fn begins_with_zero<T: Wire>(entries: &Repeated<T>) -> bool
 }
 
 // Whether the first text, if there is one, is empty.
-fn begins_with_empty(texts: &Repeated<Text>) -> bool
+fn begins_with_empty(texts: &List<Text>) -> bool
     ensures { result ≡ begins_with_zero_of TextShape texts.now }
 {
     match texts.get(0) {

@@ -4,3 +4,4 @@ pub mod Occurrences
 pub mod Eights
 pub mod Begins
 pub mod Rows
+pub mod Utf8

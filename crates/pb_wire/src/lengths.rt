@@ -4,7 +4,7 @@ ghost use Rattle.schema.specs.Texts.{varint, number_to, number_field, fixed_fiel
 ghost use Rattle.schema.specs.Spell.{spell};
 
 use crate::put::varint_len;
-use crate::{Blob, Number, Repeated, Text, Wire};
+use crate::{Blob, List, Number, Text, Wire};
 
 /// The length of a tag, of a length, and of the bytes behind them.
 #[inline]
@@ -102,7 +102,7 @@ pub(crate) fn packed_len<N: Number>(items: &[N]) -> u64
 
 /// The length of the row of packed numbers.
 #[tactic(auto, using(schema_laws::proofs::Lengths::bytes_field_le, crate::proofs::Rows::bytes_none, crate::proofs::Rows::bytes_some, schema_laws::proofs::Onto::long_len))]
-pub fn numbers_len<N: Number>(number: u32, items: &Repeated<N>) -> u64
+pub fn numbers_len<N: Number>(number: u32, items: &List<N>) -> u64
     requires below { number < 2 ^ 29 }
     requires room { length (bytes_field number (numbers_text N.format (map N.value items.now))) < 2 ^ 63 }
     ensures { result ≡ length (bytes_field number (numbers_text N.format (map N.value items.now))) }
@@ -117,7 +117,7 @@ pub fn numbers_len<N: Number>(number: u32, items: &Repeated<N>) -> u64
 /// The length of the row of packed eight-byte values.
 #[inline]
 #[tactic(auto, using(schema_laws::proofs::Lengths::bytes_field_le, crate::proofs::Rows::bytes_none, crate::proofs::Rows::bytes_some, schema_laws::proofs::Onto::long_len, schema_laws::proofs::Fixed::fixed_len))]
-pub fn fixed_list_len(number: u32, items: &Repeated<u64>) -> u64
+pub fn fixed_list_len(number: u32, items: &List<u64>) -> u64
     requires below { number < 2 ^ 29 }
     requires room { length (bytes_field number (fixed_text items.now)) < 2 ^ 63 }
     ensures { result ≡ length (bytes_field number (fixed_text items.now)) }
@@ -130,7 +130,7 @@ pub fn fixed_list_len(number: u32, items: &Repeated<u64>) -> u64
 
 /// The length of the row of repeated bytes.
 #[tactic(auto, using(schema_laws::proofs::Onto::long_len))]
-pub fn bytes_list_len(number: u32, items: &Repeated<Blob>) -> u64
+pub fn bytes_list_len(number: u32, items: &List<Blob>) -> u64
     requires below { number < 2 ^ 29 }
     requires room { length (items_text number items.now) < 2 ^ 63 }
     ensures { result ≡ length (items_text number items.now) }
@@ -144,7 +144,7 @@ pub fn bytes_list_len(number: u32, items: &Repeated<Blob>) -> u64
 
 /// The length of the row of repeated texts.
 #[tactic(auto, using(schema_laws::proofs::Onto::long_len))]
-pub fn text_list_len(number: u32, items: &Repeated<Text>) -> u64
+pub fn text_list_len(number: u32, items: &List<Text>) -> u64
     requires below { number < 2 ^ 29 }
     requires room { length (items_text number items.now) < 2 ^ 63 }
     ensures { result ≡ length (items_text number items.now) }
@@ -158,7 +158,7 @@ pub fn text_list_len(number: u32, items: &Repeated<Text>) -> u64
 
 /// The length of the row of repeated messages.
 #[tactic(auto, using(schema_laws::proofs::Onto::long_len, schema_laws::proofs::Onto::onto_len, crate::proofs::Rows::items_of))]
-pub fn messages_len<T: Wire>(number: u32, items: &Repeated<T>) -> u64
+pub fn messages_len<T: Wire>(number: u32, items: &List<T>) -> u64
     requires below { number < 2 ^ 29 }
     requires room { length (items_text number (map (spell T.shape) (map T.view items.now))) < 2 ^ 63 }
     ensures { result ≡ length (items_text number (map (spell T.shape) (map T.view items.now))) }

@@ -6,13 +6,13 @@ mod fault;
 mod field;
 mod laws;
 mod lengths;
+mod list;
 mod memory;
 mod next;
 mod number;
 mod pieces;
 mod put;
 mod put_rows;
-mod repeated;
 mod take;
 mod text;
 mod wire;
@@ -25,6 +25,7 @@ pub use lengths::{
     bytes_len, bytes_list_len, fixed_len, fixed_list_len, long_len, message_len, messages_len,
     number_len, numbers_len, text_len, text_list_len,
 };
+pub use list::List;
 pub use memory::NoMemory;
 pub use next::next_field;
 pub use number::Number;
@@ -34,7 +35,6 @@ pub use put_rows::{
     put_bytes, put_bytes_list, put_fixed, put_fixed_list, put_message, put_messages, put_number,
     put_numbers, put_text, put_text_list,
 };
-pub use repeated::Repeated;
 pub use take::{
     add_bytes, add_fixed, add_message, add_number, add_text, take_bytes, take_fixed, take_message,
     take_number, take_text, text_of,

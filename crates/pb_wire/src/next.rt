@@ -10,7 +10,7 @@ use crate::{Field, Payload, Reason, WireFault};
 const GREATEST_NUMBER: u64 = 536_870_911;
 
 /// The varint at the front of bytes, and what follows it.
-#[inline]
+#[inline(always)]
 pub(crate) fn varint(bytes: &[u8]) -> Result<(u64, &[u8]), Reason>
     ensures { Gives (λ x. (x.0, x.1.now)) result (varint_at 9 bytes.now) }
 {
@@ -41,7 +41,7 @@ pub(crate) fn varint(bytes: &[u8]) -> Result<(u64, &[u8]), Reason>
 }
 
 // So many bytes at the front, and what follows them.
-#[inline]
+#[inline(always)]
 fn bytes(len: u64, from: &[u8]) -> Result<(&[u8], &[u8]), Reason>
     ensures { Gives (λ x. (x.0.now, x.1.now)) result (bytes_at len from.now) }
 {
@@ -52,7 +52,7 @@ fn bytes(len: u64, from: &[u8]) -> Result<(&[u8], &[u8]), Reason>
 }
 
 // The payload of a wire type at the front, and what follows it.
-#[inline]
+#[inline(always)]
 #[tactic(auto, unfolding(schema::specs::Steps::payload_at))]
 fn payload(kind: u64, from: &[u8]) -> Result<(Payload<'_>, &[u8]), Reason>
     ensures { Gives (λ x. (payload_view x.0, x.1.now)) result (payload_at kind from.now) }
@@ -89,7 +89,7 @@ pub(crate) struct Front<'a> {
 }
 
 /// The field at the front of bytes, and what follows it.
-#[inline]
+#[inline(always)]
 #[tactic(auto, unfolding(schema::specs::Steps::field_at))]
 pub(crate) fn front_field(bytes: &[u8]) -> Result<(Front<'_>, &[u8]), Reason>
     ensures { Gives (λ x. (front_view x.0, x.1.now)) result (field_at bytes.now) }

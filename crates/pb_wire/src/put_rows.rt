@@ -6,7 +6,7 @@ ghost use Rattle.pb_wire.specs.Answers.{Begins};
 
 use crate::lengths::packed_len;
 use crate::put::{push_long, push_varint};
-use crate::{Blob, NoMemory, Number, Repeated, Text, Wire};
+use crate::{Blob, List, NoMemory, Number, Text, Wire};
 
 /// Puts a number that is not 0.
 #[inline]
@@ -80,7 +80,7 @@ pub fn put_text(out: &mut Blob, number: u32, text: &Text) -> Result<(), NoMemory
 
 /// Puts each element behind its own tag and length, also an empty one.
 #[tactic(auto, using(crate::proofs::Begins::growing))]
-pub fn put_bytes_list(out: &mut Blob, number: u32, items: &Repeated<Blob>) -> Result<(), NoMemory>
+pub fn put_bytes_list(out: &mut Blob, number: u32, items: &List<Blob>) -> Result<(), NoMemory>
     requires { number < 2 ^ 29 }
     ensures ok { OnOk result (out.new ≡ out.old ++ items_text number items.now) }
     ensures err { OnErr result (Begins out.old out.new) }
@@ -95,7 +95,7 @@ pub fn put_bytes_list(out: &mut Blob, number: u32, items: &Repeated<Blob>) -> Re
 
 /// Puts each element behind its own tag and length, also an empty one.
 #[tactic(auto, using(crate::proofs::Begins::growing))]
-pub fn put_text_list(out: &mut Blob, number: u32, items: &Repeated<Text>) -> Result<(), NoMemory>
+pub fn put_text_list(out: &mut Blob, number: u32, items: &List<Text>) -> Result<(), NoMemory>
     requires { number < 2 ^ 29 }
     ensures ok { OnOk result (out.new ≡ out.old ++ items_text number items.now) }
     ensures err { OnErr result (Begins out.old out.new) }
@@ -141,11 +141,7 @@ pub fn put_message<T: Wire>(out: &mut Blob, number: u32, message: &T) -> Result<
 
 /// Puts each message behind its own tag and length, also an empty one.
 #[tactic(auto, using(crate::proofs::Begins::growing))]
-pub fn put_messages<T: Wire>(
-    out: &mut Blob,
-    number: u32,
-    items: &Repeated<T>,
-) -> Result<(), NoMemory>
+pub fn put_messages<T: Wire>(out: &mut Blob, number: u32, items: &List<T>) -> Result<(), NoMemory>
     requires below { number < 2 ^ 29 }
     requires room { length (items_text number (map (spell T.shape) (map T.view items.now))) < 2 ^ 63 }
     ensures ok { OnOk result (out.new ≡ out.old ++ items_text number (map (spell T.shape) (map T.view items.now))) }
@@ -175,11 +171,7 @@ fn push_packed<N: Number>(out: &mut Blob, items: &[N]) -> Result<(), NoMemory>
 
 /// Puts numbers, unless there are none, packed behind one tag and length.
 #[tactic(auto, using(crate::proofs::Begins::growing, schema_laws::proofs::Onto::long_onto, schema_laws::proofs::Lengths::bytes_field_le, crate::proofs::Rows::left_out, crate::proofs::Rows::bytes_some))]
-pub fn put_numbers<N: Number>(
-    out: &mut Blob,
-    number: u32,
-    items: &Repeated<N>,
-) -> Result<(), NoMemory>
+pub fn put_numbers<N: Number>(out: &mut Blob, number: u32, items: &List<N>) -> Result<(), NoMemory>
     requires below { number < 2 ^ 29 }
     requires room { length (bytes_field number (numbers_text N.format (map N.value items.now))) < 2 ^ 63 }
     ensures ok { OnOk result (out.new ≡ out.old ++ bytes_field number (numbers_text N.format (map N.value items.now))) }
@@ -212,7 +204,7 @@ fn push_eights(out: &mut Blob, items: &[u64]) -> Result<(), NoMemory>
 
 /// Puts eight-byte values, unless there are none, packed behind one tag and length.
 #[tactic(auto, using(crate::proofs::Begins::growing, schema_laws::proofs::Onto::long_onto, schema_laws::proofs::Lengths::bytes_field_le, crate::proofs::Rows::left_out, crate::proofs::Rows::bytes_some, schema_laws::proofs::Fixed::fixed_len))]
-pub fn put_fixed_list(out: &mut Blob, number: u32, items: &Repeated<u64>) -> Result<(), NoMemory>
+pub fn put_fixed_list(out: &mut Blob, number: u32, items: &List<u64>) -> Result<(), NoMemory>
     requires below { number < 2 ^ 29 }
     requires room { length (bytes_field number (fixed_text items.now)) < 2 ^ 63 }
     ensures ok { OnOk result (out.new ≡ out.old ++ bytes_field number (fixed_text items.now)) }

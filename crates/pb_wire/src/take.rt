@@ -9,7 +9,7 @@ ghost use Rattle.pb_wire.specs.View.{payload_view, reason_view};
 
 use crate::next::varint;
 use crate::{
-    Blob, Field, NoMemory, Number, Payload, ReadFault, Reason, Repeated, Text, Wire, WireFault,
+    Blob, Field, List, NoMemory, Number, Payload, ReadFault, Reason, Text, Wire, WireFault,
 };
 use std::alloc::Global;
 
@@ -88,7 +88,7 @@ pub fn take_message<T: Wire>(
 
 /// Takes one element of a repeated message.
 pub fn add_message<T: Wire>(
-    slot: &mut Repeated<T>,
+    slot: &mut List<T>,
     alloc: Global,
     field: &Field<'_>,
 ) -> Result<(), ReadFault>
@@ -118,7 +118,7 @@ fn packed_reason(reason: Reason) -> Reason
 }
 
 // The numbers of a packed payload, whose tag is at a place.
-fn add_packed<N: Number>(slot: &mut Repeated<N>, bytes: &[u8], at: u64) -> Result<(), ReadFault>
+fn add_packed<N: Number>(slot: &mut List<N>, bytes: &[u8], at: u64) -> Result<(), ReadFault>
     ensures { Took (map N.value slot.new) result (more_packed N.format at bytes.now (map N.value slot.old)) }
 {
     let mut rest = bytes;
@@ -137,7 +137,7 @@ fn add_packed<N: Number>(slot: &mut Repeated<N>, bytes: &[u8], at: u64) -> Resul
 }
 
 /// Takes the elements of a repeated number, packed or not.
-pub fn add_number<N: Number>(slot: &mut Repeated<N>, field: &Field<'_>) -> Result<(), ReadFault>
+pub fn add_number<N: Number>(slot: &mut List<N>, field: &Field<'_>) -> Result<(), ReadFault>
     ensures { Took (map N.value slot.new) result (more_numbers N.format field.now.at (payload_view field.now.payload) (map N.value slot.old)) }
 {
     match field.payload {
@@ -151,7 +151,7 @@ pub fn add_number<N: Number>(slot: &mut Repeated<N>, field: &Field<'_>) -> Resul
 }
 
 // The eight-byte numbers of a packed payload, whose tag is at a place.
-fn add_packed_fixed(slot: &mut Repeated<u64>, bytes: &[u8], at: u64) -> Result<(), ReadFault>
+fn add_packed_fixed(slot: &mut List<u64>, bytes: &[u8], at: u64) -> Result<(), ReadFault>
     ensures { Took slot.new result (more_packed_fixed at bytes.now slot.old) }
 {
     if bytes.len() % 8 != 0 {
@@ -169,7 +169,7 @@ fn add_packed_fixed(slot: &mut Repeated<u64>, bytes: &[u8], at: u64) -> Result<(
 }
 
 /// Takes the elements of a repeated eight-byte number, packed or not.
-pub fn add_fixed(slot: &mut Repeated<u64>, field: &Field<'_>) -> Result<(), ReadFault>
+pub fn add_fixed(slot: &mut List<u64>, field: &Field<'_>) -> Result<(), ReadFault>
     ensures { Took slot.new result (more_fixed field.now.at (payload_view field.now.payload) slot.old) }
 {
     match field.payload {
@@ -183,11 +183,7 @@ pub fn add_fixed(slot: &mut Repeated<u64>, field: &Field<'_>) -> Result<(), Read
 }
 
 /// Takes one element of repeated bytes.
-pub fn add_bytes(
-    slot: &mut Repeated<Blob>,
-    alloc: Global,
-    field: &Field<'_>,
-) -> Result<(), ReadFault>
+pub fn add_bytes(slot: &mut List<Blob>, alloc: Global, field: &Field<'_>) -> Result<(), ReadFault>
     ensures { Took slot.new result (Ok (more_bytes (payload_view field.now.payload) slot.old)) }
 {
     match field.payload {
@@ -200,11 +196,7 @@ pub fn add_bytes(
 }
 
 /// Takes one element of a repeated text.
-pub fn add_text(
-    slot: &mut Repeated<Text>,
-    alloc: Global,
-    field: &Field<'_>,
-) -> Result<(), ReadFault>
+pub fn add_text(slot: &mut List<Text>, alloc: Global, field: &Field<'_>) -> Result<(), ReadFault>
     ensures { Took slot.new result (more_texts field.now.at (payload_view field.now.payload) slot.old) }
 {
     match field.payload {

@@ -5,7 +5,7 @@ ghost use Rattle.prof_rec.specs.Views.{profile_view};
 
 use crate::{Sample, ValueType};
 use pb_wire::{
-    Blob, Field, NoMemory, ReadFault, Repeated, Text, Wire, add_message, add_number, bytes_len,
+    Blob, Field, List, NoMemory, ReadFault, Text, Wire, add_message, add_number, bytes_len,
     fixed_len, message_len, messages_len, number_len, numbers_len, put_bytes, put_fixed,
     put_message, put_messages, put_number, put_numbers, put_text, take_bytes, take_fixed,
     take_message, take_number, take_text, text_len,
@@ -17,7 +17,7 @@ use std::alloc::Global;
 pub struct Profile {
     /// What the values of the samples are.
     pub sample_type: ValueType,
-    pub samples: Repeated<Sample>,
+    pub samples: List<Sample>,
     /// When the profile was collected, in nanoseconds since 1970.
     pub time_unix_nano: u64,
     /// How long it took, in nanoseconds.
@@ -31,7 +31,7 @@ pub struct Profile {
     pub original_payload_format: Text,
     pub original_payload: Blob,
     /// Indexes into the attribute table.
-    pub attribute_indices: Repeated<i32>,
+    pub attribute_indices: List<i32>,
 }
 
 impl Wire for Profile {
@@ -46,7 +46,7 @@ impl Wire for Profile {
     fn none(alloc: Global) -> Profile {
         Profile {
             sample_type: ValueType::none(alloc),
-            samples: Repeated::begin(alloc),
+            samples: List::begin(alloc),
             time_unix_nano: 0,
             duration_nano: 0,
             period_type: ValueType::none(alloc),
@@ -55,7 +55,7 @@ impl Wire for Profile {
             dropped_attributes_count: 0,
             original_payload_format: Text::begin(alloc),
             original_payload: Blob::begin(alloc),
-            attribute_indices: Repeated::begin(alloc),
+            attribute_indices: List::begin(alloc),
         }
     }
 

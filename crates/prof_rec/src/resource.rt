@@ -5,7 +5,7 @@ ghost use Rattle.prof_rec.specs.Views.{resource_view};
 
 use any_value::KeyValue;
 use pb_wire::{
-    Blob, Field, NoMemory, ReadFault, Repeated, Wire, add_bytes, add_message, bytes_list_len,
+    Blob, Field, List, NoMemory, ReadFault, Wire, add_bytes, add_message, bytes_list_len,
     messages_len, number_len, put_bytes_list, put_messages, put_number, take_number,
 };
 use std::alloc::Global;
@@ -13,10 +13,10 @@ use std::alloc::Global;
 /// What was profiled: a process, a container, a host.
 #[derive(Debug, Drop)]
 pub struct Resource {
-    pub attributes: Repeated<KeyValue>,
+    pub attributes: List<KeyValue>,
     pub dropped_attributes_count: u32,
     /// Elements that are carried unread, each with its own bytes.
-    pub opaque: Repeated<Blob>,
+    pub opaque: List<Blob>,
 }
 
 impl Wire for Resource {
@@ -30,9 +30,9 @@ impl Wire for Resource {
 
     fn none(alloc: Global) -> Resource {
         Resource {
-            attributes: Repeated::begin(alloc),
+            attributes: List::begin(alloc),
             dropped_attributes_count: 0,
-            opaque: Repeated::begin(alloc),
+            opaque: List::begin(alloc),
         }
     }
 

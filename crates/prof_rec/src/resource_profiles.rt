@@ -5,7 +5,7 @@ ghost use Rattle.prof_rec.specs.Views.{resource_profiles_view};
 
 use crate::{Resource, ScopeProfiles};
 use pb_wire::{
-    Blob, Field, NoMemory, ReadFault, Repeated, Text, Wire, add_message, message_len, messages_len,
+    Blob, Field, List, NoMemory, ReadFault, Text, Wire, add_message, message_len, messages_len,
     put_message, put_messages, put_text, take_message, take_text, text_len,
 };
 use std::alloc::Global;
@@ -14,13 +14,13 @@ use std::alloc::Global;
 #[derive(Debug, Drop)]
 pub struct ResourceProfiles {
     pub resource: Resource,
-    pub scope_profiles: Repeated<ScopeProfiles>,
+    pub scope_profiles: List<ScopeProfiles>,
     /// The URL of the schema that the resource follows.
     pub schema_url: Text,
 }
 
 /// A list of resource records.
-pub type ResourceList = Repeated<ResourceProfiles>;
+pub type ResourceList = List<ResourceProfiles>;
 
 impl Wire for ResourceProfiles {
     ghost shape = { resource_profiles };
@@ -34,7 +34,7 @@ impl Wire for ResourceProfiles {
     fn none(alloc: Global) -> ResourceProfiles {
         ResourceProfiles {
             resource: Resource::none(alloc),
-            scope_profiles: Repeated::begin(alloc),
+            scope_profiles: List::begin(alloc),
             schema_url: Text::begin(alloc),
         }
     }

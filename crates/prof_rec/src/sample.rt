@@ -4,7 +4,7 @@ ghost use Rattle.schema.specs.Messages.{sample};
 ghost use Rattle.prof_rec.specs.Views.{sample_view};
 
 use pb_wire::{
-    Blob, Field, NoMemory, ReadFault, Repeated, Wire, add_fixed, add_number, fixed_list_len,
+    Blob, Field, List, NoMemory, ReadFault, Wire, add_fixed, add_number, fixed_list_len,
     number_len, numbers_len, put_fixed_list, put_number, put_numbers, take_number,
 };
 use std::alloc::Global;
@@ -15,13 +15,13 @@ pub struct Sample {
     /// An index into the stack table.
     pub stack_index: i32,
     /// What was measured, in the unit of the profile's sample type.
-    pub values: Repeated<i64>,
+    pub values: List<i64>,
     /// Indexes into the attribute table.
-    pub attribute_indices: Repeated<i32>,
+    pub attribute_indices: List<i32>,
     /// An index into the link table.
     pub link_index: i32,
     /// When it was measured, in nanoseconds since 1970.
-    pub timestamps_unix_nano: Repeated<u64>,
+    pub timestamps_unix_nano: List<u64>,
 }
 
 impl Wire for Sample {
@@ -36,10 +36,10 @@ impl Wire for Sample {
     fn none(alloc: Global) -> Sample {
         Sample {
             stack_index: 0,
-            values: Repeated::begin(alloc),
-            attribute_indices: Repeated::begin(alloc),
+            values: List::begin(alloc),
+            attribute_indices: List::begin(alloc),
             link_index: 0,
-            timestamps_unix_nano: Repeated::begin(alloc),
+            timestamps_unix_nano: List::begin(alloc),
         }
     }
 

@@ -5,7 +5,7 @@ ghost use Rattle.prof_rec.specs.Views.{scope_view};
 
 use any_value::KeyValue;
 use pb_wire::{
-    Blob, Field, NoMemory, ReadFault, Repeated, Text, Wire, add_message, messages_len, number_len,
+    Blob, Field, List, NoMemory, ReadFault, Text, Wire, add_message, messages_len, number_len,
     put_messages, put_number, put_text, take_number, take_text, text_len,
 };
 use std::alloc::Global;
@@ -15,7 +15,7 @@ use std::alloc::Global;
 pub struct Scope {
     pub name: Text,
     pub version: Text,
-    pub attributes: Repeated<KeyValue>,
+    pub attributes: List<KeyValue>,
     pub dropped_attributes_count: u32,
 }
 
@@ -32,7 +32,7 @@ impl Wire for Scope {
         Scope {
             name: Text::begin(alloc),
             version: Text::begin(alloc),
-            attributes: Repeated::begin(alloc),
+            attributes: List::begin(alloc),
             dropped_attributes_count: 0,
         }
     }

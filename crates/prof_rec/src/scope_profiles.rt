@@ -5,7 +5,7 @@ ghost use Rattle.prof_rec.specs.Views.{scope_profiles_view};
 
 use crate::{Profile, Scope};
 use pb_wire::{
-    Blob, Field, NoMemory, ReadFault, Repeated, Text, Wire, add_message, message_len, messages_len,
+    Blob, Field, List, NoMemory, ReadFault, Text, Wire, add_message, message_len, messages_len,
     put_message, put_messages, put_text, take_message, take_text, text_len,
 };
 use std::alloc::Global;
@@ -14,7 +14,7 @@ use std::alloc::Global;
 #[derive(Debug, Drop)]
 pub struct ScopeProfiles {
     pub scope: Scope,
-    pub profiles: Repeated<Profile>,
+    pub profiles: List<Profile>,
     /// The URL of the schema that the scope and its profiles follow.
     pub schema_url: Text,
 }
@@ -31,7 +31,7 @@ impl Wire for ScopeProfiles {
     fn none(alloc: Global) -> ScopeProfiles {
         ScopeProfiles {
             scope: Scope::none(alloc),
-            profiles: Repeated::begin(alloc),
+            profiles: List::begin(alloc),
             schema_url: Text::begin(alloc),
         }
     }

@@ -51,15 +51,15 @@ impl Wire for Leaf {
 #[derive(Debug, Drop)]
 pub struct Tree {
     pub leaf: Leaf,
-    pub leaves: Repeated<Leaf>,
+    pub leaves: List<Leaf>,
     pub time: u64,
     pub duration: u64,
     pub period: i64,
     pub id: Blob,
-    pub times: Repeated<u64>,
-    pub payloads: Repeated<Blob>,
-    pub indices: Repeated<i32>,
-    pub names: Repeated<pb_wire::Text>,
+    pub times: List<u64>,
+    pub payloads: List<Blob>,
+    pub indices: List<i32>,
+    pub names: List<pb_wire::Text>,
 }
 
 impl Wire for Tree {
@@ -90,15 +90,15 @@ impl Wire for Tree {
     fn none(alloc: Global) -> Tree {
         Tree {
             leaf: Leaf::none(alloc),
-            leaves: Repeated::begin(alloc),
+            leaves: List::begin(alloc),
             time: 0,
             duration: 0,
             period: 0,
             id: Blob::begin(alloc),
-            times: Repeated::begin(alloc),
-            payloads: Repeated::begin(alloc),
-            indices: Repeated::begin(alloc),
-            names: Repeated::begin(alloc),
+            times: List::begin(alloc),
+            payloads: List::begin(alloc),
+            indices: List::begin(alloc),
+            names: List::begin(alloc),
         }
     }
 

@@ -1,8 +1,7 @@
 //! Keys that are bytes.
-ghost use Rattle.std.specs.Prelude.{◌≡◌, List, ℕ, IfOk, nat_eq};
+ghost use Rattle.std.specs.Prelude.{◌≡◌, ◌∷◌, [], List, ℕ, IfOk, nat_eq};
 ghost use Rattle.std.specs.Cmp.Lexicographic.{pointwise, bytes_decides};
 ghost use Rattle.std.specs.Cmp.Rules.{comparing, hashing};
-ghost use Rattle.std.specs.Hash as fed;
 ghost use Rattle.std.proofs.Common.{rules};
 
 use crate::Key;
@@ -68,12 +67,13 @@ impl Eq for EntryKey {
 }
 
 impl Hash for EntryKey {
-    ghost hash_input = { fed.slice fed.u8 };
+    ghost hash_input = { λ key. key ∷ [] };
 
     ghost respects_eq = { Prim.search (hashing, rules) };
 
+    // One write: a slice's own hash writes byte by byte.
     fn hash<H: Hasher>(&self, state: &mut H) {
-        self.as_slice().hash(state);
+        state.write(self.as_slice());
     }
 }
 

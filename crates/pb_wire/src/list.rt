@@ -1,4 +1,4 @@
-//! The elements of a repeated field.
+//! Lists.
 ghost use Rattle.std.specs.Prelude.{◌≡◌, ◌++◌, ◌∷◌, [], ◌<◌, OnOk, OnErr, OnSome, length, slice_get, ◌==◌};
 ghost use Rattle.std.specs.Option.{option_copied};
 
@@ -6,13 +6,13 @@ use crate::NoMemory;
 use std::alloc::Global;
 use std::marker::Model;
 
-/// The elements of a repeated field, seen as their list.
+/// Elements in order, seen as their list: those of a repeated field, and others.
 #[derive(Debug, Drop)]
-pub struct Repeated<T> {
+pub struct List<T> {
     items: Vec<T>,
 }
 
-impl<T> Model for Repeated<T> {
+impl<T> Model for List<T> {
     ghost use Rattle.std.specs.Prelude.{List};
 
     ghost Value = { List T };
@@ -20,12 +20,12 @@ impl<T> Model for Repeated<T> {
     ghost view = { λ r. r.items.items };
 }
 
-impl<T> Repeated<T> {
+impl<T> List<T> {
     /// No elements. It takes no memory.
-    pub fn begin(alloc: Global) -> Repeated<T>
+    pub fn begin(alloc: Global) -> List<T>
         ensures { result ≡ [] }
     {
-        Repeated {
+        List {
             items: Vec::new(alloc),
         }
     }
@@ -36,6 +36,20 @@ impl<T> Repeated<T> {
         ensures within { OnSome result (place < length self.now) }
     {
         self.items.get(place)
+    }
+
+    /// The elements of a vector, which is moved.
+    pub fn from_vec(items: Vec<T>) -> List<T>
+        ensures { result ≡ items.items }
+    {
+        List { items }
+    }
+
+    /// The elements as a vector. No element is copied.
+    pub fn into_vec(self) -> Vec<T>
+        ensures { result.items ≡ self }
+    {
+        self.items
     }
 
     pub fn len(&self) -> usize
@@ -57,7 +71,7 @@ impl<T> Repeated<T> {
     }
 }
 
-impl<T: Drop> Repeated<T> {
+impl<T: Drop> List<T> {
     /// Puts an element at the end. After want of memory the list is as before and the element is dropped. The first one takes
     /// room for itself alone, since most lists of a message have one element.
     pub fn add(&mut self, element: T) -> Result<(), NoMemory>
