@@ -5,3 +5,4 @@ pub mod Elements
 pub mod Appends
 pub mod Counts
 pub mod Fed
+pub mod Typed

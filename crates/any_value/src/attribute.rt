@@ -7,7 +7,9 @@ use crate::lengths::value_row_len;
 use crate::reading::take_value;
 use crate::value::{KeyValue, Value};
 use crate::writing::put_value;
-use pb_wire::{Blob, Field, NoMemory, ReadFault, Text, Wire, put_text, take_text, text_len};
+use pb_wire::{
+    Blob, Field, NewIndexes, NoMemory, ReadFault, Text, Wire, put_text, take_text, text_len,
+};
 use std::alloc::Global;
 
 impl Wire for KeyValue {
@@ -34,12 +36,12 @@ impl Wire for KeyValue {
         }
     }
 
-    fn rows_len(&self) -> u64 {
+    fn rows_len<I: NewIndexes>(&self, _indexes: &I) -> u64 {
         text_len(1, &self.key) + value_row_len(2, &self.value)
     }
 
     #[tactic(auto, using(pb_wire::proofs::Begins::growing))]
-    fn put_rows(&self, out: &mut Blob) -> Result<(), NoMemory> {
+    fn put_rows<I: NewIndexes>(&self, _indexes: &I, out: &mut Blob) -> Result<(), NoMemory> {
         put_text(out, 1, &self.key)?;
         put_value(out, 2, &self.value)?;
         Ok(())

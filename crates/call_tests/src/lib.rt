@@ -4,7 +4,7 @@
 #[cfg(test)]
 mod drafts;
 #[cfg(test)]
-mod key_tables;
+mod interners;
 #[cfg(test)]
 mod records;
 #[cfg(test)]

@@ -7,7 +7,7 @@ use commands::Texts;
 use dict_rec::{Attr, Dictionary, Function, Line, Link, Location, Mapping, TableKind};
 use otlp_msg::{Holder, Path, ProfilePos, Refusal};
 use pb_wire::{Field, Payload, ReadFault, Reason, Text, Wire, WireFault};
-use prof_rec::{Profile, ResourceProfiles, Sample, ScopeProfiles};
+use prof_rec::{Profile, ResourceProfiles, Sample, Samples, ScopeProfiles};
 use std::alloc::Global;
 use std::process::Abort;
 use std::test::Fail;
@@ -195,6 +195,31 @@ fn names_fields_of_the_records(rt: HostRuntime) -> Result<(), Fail> {
     profile_is_named(&rt, alloc)?;
     resource_is_named(&rt, alloc)?;
     scope_is_named(&rt, alloc)
+}
+
+// Samples that are added are seen at their places, with their own elements.
+#[test]
+fn adds_samples(rt: HostRuntime) -> Result<(), Fail> {
+    let alloc = rt.alloc();
+    let mut samples = Samples::begin(alloc);
+    let empty = samples.is_empty();
+    samples.add(read::<Sample>(alloc, b"\x12\x01\x07\x20\x04")?)?;
+    samples.add(read::<Sample>(
+        alloc,
+        b"\x08\x01\x12\x01\x02\x1a\x01\x03\x29\x05\x00\x00\x00\x00\x00\x00\x00",
+    )?)?;
+    let seen = match samples.get(1) {
+        Some(found) => {
+            (found.stack_index, found.link_index) == (1, 0)
+                && found.values == [2].as_slice()
+                && found.attribute_indices == [3].as_slice()
+                && found.timestamps_unix_nano == [5].as_slice()
+        }
+        None => false,
+    };
+    let beyond = samples.get(2).is_none();
+    assert!(rt; empty && seen && beyond, "{samples:?}");
+    Ok(())
 }
 
 // A value is taken from a field of bytes, and a field of another wire type is skipped. At level 65 it is too deep.

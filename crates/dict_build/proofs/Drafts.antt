@@ -1,11 +1,11 @@
 -- Drafts, and the meanings for which they stand.
-use Rattle.std.proofs.Common.{◌≡◌, ℕ, ◌<◌, ◌≤◌, ◌^◌, List, [], ◌∷◌, ◌++◌, length, map, Result, Ok, Err, OnOk, OnErr, sym, ap, ◌∙◌, subst, arith}
+use Rattle.std.proofs.Common.{◌≡◌, ℕ, ◌<◌, ◌≤◌, ◌^◌, List, [], ◌++◌, length, map, Result, Ok, Err, OnOk, OnErr, refl, sym, ap, ◌∙◌, subst, arith}
 use Rattle.schema.specs.Each.{Each}
 use Rattle.schema.specs.Fits.{Fits}
 use Rattle.schema.specs.Messages.{resource_profiles, envelope}
 use Rattle.schema.specs.Shape.{Table}
 use Rattle.schema.specs.Spell.{spell}
-use Rattle.meaning.specs.Canonical.{IsWithin}
+use Rattle.meaning.specs.Canonical.{IsWithin, records as records_of}
 use Rattle.meaning.specs.Meaning.{HasZeros}
 use Rattle.meaning.specs.Message.{tables_in}
 use Rattle.meaning.specs.Tables.{entry}
@@ -16,15 +16,16 @@ use Rattle.prof_rec.specs.Views.{resource_profiles_view}
 use Rattle.otlp_msg.specs.declared.message.Message as declared
 use Rattle.otlp_msg.specs.Message.{Message, message_limit}
 use Rattle.otlp_msg.specs.Views.{message_view}
+use Rattle.key_tables.specs.Keys.{Keys, zero_keys}
+use Rattle.renumber.specs.Entries.{IsPart, IsSource}
+use Rattle.renumber.proofs.Parts.{message_part, message_source}
 use Rattle.dict_build.specs.Contents.{Contents, IsDraft, whole_text}
 use Rattle.dict_build.specs.declared.fault.BuildFault.{BuildFault}
 use Rattle.dict_build.specs.Draft.{IsFaultOf, StandsFor, StandsForSome}
 use Rattle.dict_build.specs.Meanings.{Meaning, IsAcceptedAs, meaning, size_of}
-use Rattle.dict_build.specs.Renumbered.{Keys, IsPart, IsSource, at}
 use Rattle.dict_build.proofs.Accepted.{apart, joined_written, meaning_accepted}
-use Rattle.dict_build.proofs.Filled.{begun, begun_len, whole_is}
-use Rattle.dict_build.proofs.Kept.{at_zero, zero_keys}
-use Rattle.dict_build.proofs.Parts.{message_part, message_source}
+use Rattle.dict_build.proofs.Added.{message_records}
+use Rattle.dict_build.proofs.Filled.{begun, begun_len, whole_is, whole_len_is}
 
 -- ---- bytes
 
@@ -44,15 +45,19 @@ size_is d ms n e r = e ∙ ap length (whole_is d ms r)
 
 -- that of none is sixteen
 pub none_size : size_of [] ≡ 16
-none_size = let d : Contents = record { keys = zero_keys; records = [] } in sym (size_is d [] 16 (sym (begun_len zero_keys at_zero)) (begun zero_keys at_zero))
+none_size = let d : Contents = record { keys = zero_keys; records = [] } in sym (size_is d [] 16 (sym begun_len) begun)
+
+-- the records of a draft are no longer than a message may be
+pub records_few : (d : Contents) → StandsForSome d → length d.records ≤ message_limit
+records_few d s =
+    let e = size_is d s.0 (length (whole_text d)) refl s.1.draft in
+    let few = s.1.written.small in
+    omega (arith, e, few, whole_len_is d)
 
 -- ---- the beginning
 
-pub begun_stands : (keys : Keys) → ((T : Table) → at keys T ≡ [] ∷ []) → StandsFor (record { keys = keys; records = [] }) []
-begun_stands keys h = record { draft = begun keys h; written = record { means = tt; ranges = tt; small = omega (arith, none_size) } }
-
-pub begun_records : (keys : Keys) (records : List ℕ) → ((T : Table) → at keys T ≡ [] ∷ []) → records ≡ [] → StandsFor (record { keys = keys; records = records }) []
-begun_records keys records h e = subst (λ r. StandsFor (record { keys = keys; records = r }) []) (sym e) (begun_stands keys h)
+pub begun_stands : (keys : Keys) (records : List ℕ) → keys ≡ zero_keys → records ≡ [] → StandsFor (record { keys = keys; records = records }) []
+begun_stands keys records e f = rw (e, f) (record { draft = begun; written = record { means = tt; ranges = tt; small = omega (arith, none_size) } })
 
 -- ---- a message more
 
@@ -67,14 +72,14 @@ found_message records found m e v = ap (λ rs. message_with rs found) e ∙ v
 -- it can be renumbered
 pub found_source : (records : List ResourceProfiles) (found : declared.Message) (m : Message) → message_with records found ≡ m → HasZeros (tables_in m.1.0)
     → ((T : Table) → Each (IsWithin (tables_in m.1.0) (entry T)) (tables_in m.1.0 T)) → Each (IsWithin (tables_in m.1.0) resource_profiles) (map (tree resource_profiles) m.0) → Fits envelope m
-    → length (spell envelope m) < 2 ^ 60 → IsSource found.dictionary × Each (IsPart resource_profiles found.dictionary) (map resource_profiles_view records)
+    → length (spell envelope m) < 2 ^ 60 → IsSource found.dictionary × IsPart (records_of resource_profiles) found.dictionary (map resource_profiles_view records, tt)
 found_source records found m e z t r f l =
     let old = found.dictionary in
     let rs = map resource_profiles_view records in
-    message_source old rs (subst (λ (m : Message). HasZeros (tables_in m.1.0)) (sym e) z)
-    (message_part old rs (subst (λ (m : Message). (T : Table) → Each (IsWithin (tables_in m.1.0) (entry T)) (tables_in m.1.0 T)) (sym e) t)
+    let p = message_part old rs (subst (λ (m : Message). (T : Table) → Each (IsWithin (tables_in m.1.0) (entry T)) (tables_in m.1.0 T)) (sym e) t)
     (subst (λ (m : Message). Each (IsWithin (tables_in m.1.0) resource_profiles) (map (tree resource_profiles) m.0)) (sym e) r)
-    (subst (λ (m : Message). Fits envelope m) (sym e) f) (subst (λ (m : Message). length (spell envelope m) < 2 ^ 60) (sym e) l))
+    (subst (λ (m : Message). Fits envelope m) (sym e) f) (subst (λ (m : Message). length (spell envelope m) < 2 ^ 60) (sym e) l) in
+    ((message_source old rs (subst (λ (m : Message). HasZeros (tables_in m.1.0)) (sym e) z) p).0, message_records old rs p)
 
 -- equal parts are equal contents
 pub contents_same : (keys keys' : Keys) (records records' : List ℕ) → keys ≡ keys' → records ≡ records'

@@ -7,8 +7,8 @@ use Rattle.schema.specs.Texts.{items_text, long_field}
 use Rattle.meaning.specs.Message.{record_text}
 use Rattle.meaning.specs.Steps.{Drafted}
 use Rattle.meaning.specs.Tree.{Tree}
-use Rattle.dict_build.specs.Kept.{keys_text}
-use Rattle.dict_build.specs.Renumbered.{Keys, IsKey, at, new_entries}
+use Rattle.key_tables.specs.Keys.{Keys, at, keys_text}
+use Rattle.renumber.specs.Entries.{IsKey, new_entries}
 
 -- the keys of its tables, and its resource records, spelled
 pub record Contents : Type 0 where
@@ -19,8 +19,10 @@ pub record Contents : Type 0 where
 abbrev pub whole_text : Contents → List ℕ
 whole_text d = d.records ++ long_field 2 (keys_text d.keys)
 
--- these are the new entries and the spelled new records of a meaning; each key is the text of its entry, and the tables are short
+-- these are the new entries and the spelled new records of a meaning; there are seven tables, each key is the text of its entry,
+-- and the tables are short
 pub record IsDraft (d : Contents) (ms : List Tree) : Type 0 where
+  pub seven : length d.keys ≡ 7
   pub news : List Tree
   pub drafted : Drafted resource_profiles (new_entries d.keys) ms news
   pub spelled : d.records ≡ items_text 1 (map (record_text resource_profiles) news)

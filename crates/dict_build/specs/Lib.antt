@@ -1,7 +1,4 @@
-pub mod Renumbered
-pub mod Known
-pub mod OtherIndexes
-pub mod Kept
 pub mod Contents
+pub mod Adding
 pub mod Meanings
 pub mod Draft

@@ -1,30 +1,30 @@
 //! A message under construction.
-ghost use Rattle.std.specs.Prelude.{◌≡◌, ◌<◌, ◌≤◌, ◌++◌, [], IfOk, IfErr, OnOk, OnErr};
+ghost use Rattle.std.specs.Prelude.{◌≡◌, ◌+◌, ◌≤◌, ◌++◌, [], IfOk, IfErr, OnOk, OnErr};
 ghost use Rattle.schema.specs.Messages.{resource_profiles};
-ghost use Rattle.meaning.specs.Message.{meaning_text};
+ghost use Rattle.meaning.specs.Message.{meaning_text, tables_in};
 ghost use Rattle.otlp_msg.specs.Checked.{value_of};
 ghost use Rattle.otlp_msg.specs.Message.{message_limit};
+ghost use Rattle.renumber.specs.Entries.{entry_count};
 ghost use Rattle.dict_build.specs.Draft.{IsFaultOf, StandsFor, StandsForSome};
 ghost use Rattle.dict_build.specs.Meanings.{Meaning, IsAcceptedAs, meaning, size_of};
 
-use crate::contents::{append_within_limit, discard_contents, whole_bytes, whole_len};
+use crate::adding::add_within_limit;
+use crate::contents::{whole_bytes, whole_len};
 use crate::fault::BuildFault;
-use crate::measured_tables::begin_tables;
-use crate::met::Met;
-use crate::renumbering::Renumbering;
+use key_tables::{KeyTables, begin_tables};
 use otlp_msg::Checked;
 use outside::Seeds;
 use pb_wire::{Blob, NoMemory};
 use std::alloc::Global;
-use std::marker::{Brand, Model};
-use std::sync::ledger::{Blank, Ledger};
+use std::marker::Model;
+use std::sync::ledger::Ledger;
 use tables::Steps;
 
 /// A message under construction: its resource records, spelled with their new indexes, and the tables that these point
 /// into. It stands for the meaning of these records, and can be finished at any time.
 #[derive(Drop)]
 pub struct Draft<M: Seeds> {
-    renumbering: Renumbering<M::H>,
+    tables: KeyTables<M::H>,
     records: Blob,
 }
 
@@ -34,9 +34,9 @@ impl<M: Seeds> Model for Draft<M> {
 
     ghost Value = { Contents };
 
-    ghost view = { λ d. record { keys = d.renumbering.tables; records = d.records } };
+    ghost view = { λ d. record { keys = d.tables; records = d.records } };
 
-    ghost invariant = { λ d. StandsForSome (record { keys = d.renumbering.tables; records = d.records }) };
+    ghost invariant = { λ d. StandsForSome (record { keys = d.tables; records = d.records }) };
 }
 
 impl<M: Seeds> Draft<M> {
@@ -44,11 +44,15 @@ impl<M: Seeds> Draft<M> {
     ///
     /// # Errors
     ///
-    /// Memory was wanting.
+    /// Out of memory.
     pub fn begin(alloc: Global, seeds: &mut M) -> Result<Draft<M>, NoMemory>
         ensures { IfOk result (λ d. StandsFor d []) }
     {
-        begin_with::<M, Brand>(alloc, seeds, Blank::new(1))
+        let tables = begin_tables(alloc, seeds)?;
+        Ok(Draft {
+            tables,
+            records: Blob::begin(alloc),
+        })
     }
 
     /// The number of bytes of the draft, if it were finished now. It takes no memory.
@@ -58,14 +62,15 @@ impl<M: Seeds> Draft<M> {
         ensures most { result ≤ message_limit }
         ensures empty { StandsFor self.now [] → result ≡ 16 }
     {
-        whole_len(&self.renumbering.tables, &self.records)
+        whole_len(&self.tables, self.records.len() as u64)
     }
 
-    /// Adds the resource records of a message behind those of the draft. The tables gain what is new in them.
+    /// Adds the resource records of a message after those of the draft. The tables gain what is new in them. It counts at most
+    /// as many table steps as the message's seven tables have entries, plus 8.
     ///
     /// # Errors
     ///
-    /// `OutputLimit` where the whole would have more bytes than a message may have, with their number; or memory was wanting.
+    /// `OutputLimit` where the whole would have more bytes than a message may have, with their number; or out of memory.
     /// The draft is as before.
     pub fn add_message<L: Ledger>(
         &mut self,
@@ -76,10 +81,11 @@ impl<M: Seeds> Draft<M> {
         ensures ok { OnOk result ((ms : Meaning) → StandsFor self.old ms → StandsFor self.new (ms ++ meaning (value_of message.now))) }
         ensures fault { IfErr result (λ fault. (ms : Meaning) → StandsFor self.old ms → IsFaultOf (ms ++ meaning (value_of message.now)) fault) }
         ensures same { OnErr result (self.new ≡ self.old) }
+        ensures steps { steps.new ≤ steps.old + entry_count (tables_in (value_of message.now).1.0) + 8 }
     {
         let found = message.message();
-        append_within_limit(
-            &mut self.renumbering,
+        add_within_limit(
+            &mut self.tables,
             &mut self.records,
             alloc,
             &found.dictionary,
@@ -92,56 +98,17 @@ impl<M: Seeds> Draft<M> {
     ///
     /// # Errors
     ///
-    /// Memory was wanting. The draft is handed back as it was.
+    /// Out of memory. The draft is handed back as it was.
     pub fn finish(self) -> Result<Blob, (Draft<M>, NoMemory)>
         ensures ok { IfOk result (λ bytes. (ms : Meaning) → StandsFor self ms → bytes ≡ meaning_text resource_profiles ms) }
         ensures accepted { IfOk result (λ bytes. (ms : Meaning) → StandsFor self ms → IsAcceptedAs bytes ms) }
         ensures stands { StandsForSome self }
         ensures same { IfErr result (λ back. back.0 ≡ self) }
     {
-        let Draft {
-            renumbering,
-            records,
-        } = self;
-        match whole_bytes(renumbering, records) {
+        let Draft { tables, records } = self;
+        match whole_bytes(tables, records) {
             Ok(bytes) => Ok(bytes),
-            Err((renumbering, records)) => Err((
-                Draft {
-                    renumbering,
-                    records,
-                },
-                NoMemory,
-            )),
+            Err((tables, records)) => Err((Draft { tables, records }, NoMemory)),
         }
     }
-
-    /// Drops the draft. Where its seeds are any, a call is proved in seconds, and the end of a scope in a minute.
-    pub fn discard(self) {
-        let Draft {
-            renumbering,
-            records,
-        } = self;
-        discard_contents(renumbering, records);
-    }
-}
-
-// A draft of no records, whose steps are counted over this ledger.
-fn begin_with<M: Seeds, L: Ledger>(
-    alloc: Global,
-    seeds: &mut M,
-    blank: Blank,
-) -> Result<Draft<M>, NoMemory>
-    requires name { blank.name ≡ L.name }
-    requires parts { blank.parts ≡ L.parts }
-    requires some { 0 < blank.parts }
-    ensures { IfOk result (λ d. StandsFor d []) }
-{
-    let tables = begin_tables::<M, L>(alloc, seeds, blank)?;
-    Ok(Draft {
-        renumbering: Renumbering {
-            tables,
-            met: Met::none(alloc),
-        },
-        records: Blob::begin(alloc),
-    })
 }

@@ -4,7 +4,10 @@ ghost use Rattle.schema.specs.Messages.{attribute};
 ghost use Rattle.dict_rec.specs.Views.{attribute_view};
 
 use any_value::{Value, put_value, take_value, value_row_len};
-use pb_wire::{Blob, Field, NoMemory, ReadFault, Wire, number_len, put_number, take_number};
+use pb_wire::{
+    Blob, Field, NewIndexes, NoMemory, ReadFault, TableKind, Wire, index_len, put_index,
+    take_number,
+};
 use std::alloc::Global;
 
 /// An attribute of the dictionary: a key, a value and a unit.
@@ -43,17 +46,17 @@ impl Wire for Attr {
         }
     }
 
-    fn rows_len(&self) -> u64 {
-        number_len(1, self.key_strindex)
+    fn rows_len<I: NewIndexes>(&self, indexes: &I) -> u64 {
+        index_len(1, TableKind::String, &self.key_strindex, indexes)
             + value_row_len(2, &self.value)
-            + number_len(3, self.unit_strindex)
+            + index_len(3, TableKind::String, &self.unit_strindex, indexes)
     }
 
     #[tactic(auto, using(pb_wire::proofs::Begins::growing))]
-    fn put_rows(&self, out: &mut Blob) -> Result<(), NoMemory> {
-        put_number(out, 1, self.key_strindex)?;
+    fn put_rows<I: NewIndexes>(&self, indexes: &I, out: &mut Blob) -> Result<(), NoMemory> {
+        put_index(out, 1, TableKind::String, &self.key_strindex, indexes)?;
         put_value(out, 2, &self.value)?;
-        put_number(out, 3, self.unit_strindex)?;
+        put_index(out, 3, TableKind::String, &self.unit_strindex, indexes)?;
         Ok(())
     }
 }

@@ -1,15 +1,21 @@
 //! The dictionary of a message: its seven tables.
-ghost use Rattle.std.specs.Prelude.{◌≡◌, ◌++◌, ◌<◌, ◌^◌, length, refl, OnOk, OnErr};
+ghost use Rattle.std.specs.Prelude.{◌≡◌, ◌++◌, ◌<◌, ◌^◌, length, map, refl, OnOk, OnErr};
+ghost use Rattle.schema.specs.Each.{Each};
 ghost use Rattle.schema.specs.Merge.{merge_all};
-ghost use Rattle.schema.specs.Messages.{dictionary};
+ghost use Rattle.schema.specs.Messages.{dictionary, entries_in};
+ghost use Rattle.schema.specs.Moved.{moved};
+ghost use Rattle.schema.specs.ReadBack.{IsReadBack};
 ghost use Rattle.schema.specs.Shape.{empty};
+ghost use Rattle.schema.specs.Tables.{every_table};
 ghost use Rattle.schema.specs.Spell.{spell};
-ghost use Rattle.pb_wire.specs.Answers.{Reads};
+ghost use Rattle.schema.specs.Texts.{items_text};
+ghost use Rattle.schema.specs.Typed.{IsTyped};
+ghost use Rattle.pb_wire.specs.Answers.{Begins, Reads};
 ghost use Rattle.dict_rec.specs.Views.{dictionary_view};
 
 use crate::{Attr, Function, Link, Location, Mapping, Stack};
 use pb_wire::{
-    Blob, Field, List, NoMemory, Pieces, ReadFault, Text, Wire, add_message, add_text,
+    Blob, Field, List, NewIndexes, NoMemory, Pieces, ReadFault, Text, Wire, add_message, add_text,
     messages_len, put_messages, put_text_list, text_list_len,
 };
 use std::alloc::Global;
@@ -26,16 +32,21 @@ pub struct Dictionary {
     pub stack_table: List<Stack>,
 }
 
-/// The kinds of tables, in the order of the dictionary's fields.
-#[derive(Clone, Copy, Debug, PartialEq, Eq)]
-pub enum TableKind {
-    Mapping,
-    Location,
-    Function,
-    Link,
-    String,
-    Attribute,
-    Stack,
+impl Dictionary {
+    /// How many entries each table has, in the order of the fields. It takes no memory.
+    pub fn lengths(&self) -> [usize; 7]
+        ensures { result ≡ map (λ T. length (entries_in (dictionary_view self.now) T)) every_table }
+    {
+        [
+            self.mapping_table.len(),
+            self.location_table.len(),
+            self.function_table.len(),
+            self.link_table.len(),
+            self.string_table.len(),
+            self.attribute_table.len(),
+            self.stack_table.len(),
+        ]
+    }
 }
 
 impl Wire for Dictionary {
@@ -72,27 +83,52 @@ impl Wire for Dictionary {
         }
     }
 
-    fn rows_len(&self) -> u64 {
-        messages_len(1, &self.mapping_table)
-            + messages_len(2, &self.location_table)
-            + messages_len(3, &self.function_table)
-            + messages_len(4, &self.link_table)
-            + text_list_len(5, &self.string_table)
-            + messages_len(6, &self.attribute_table)
-            + messages_len(7, &self.stack_table)
+    fn rows_len<I: NewIndexes>(&self, indexes: &I) -> u64 {
+        table_len(1, &self.mapping_table, indexes)
+            + table_len(2, &self.location_table, indexes)
+            + table_len(3, &self.function_table, indexes)
+            + table_len(4, &self.link_table, indexes)
+            + text_list_len(5, self.string_table.as_slice())
+            + table_len(6, &self.attribute_table, indexes)
+            + table_len(7, &self.stack_table, indexes)
     }
 
     #[tactic(auto, using(pb_wire::proofs::Begins::growing))]
-    fn put_rows(&self, out: &mut Blob) -> Result<(), NoMemory> {
-        put_messages(out, 1, &self.mapping_table)?;
-        put_messages(out, 2, &self.location_table)?;
-        put_messages(out, 3, &self.function_table)?;
-        put_messages(out, 4, &self.link_table)?;
-        put_text_list(out, 5, &self.string_table)?;
-        put_messages(out, 6, &self.attribute_table)?;
-        put_messages(out, 7, &self.stack_table)?;
+    fn put_rows<I: NewIndexes>(&self, indexes: &I, out: &mut Blob) -> Result<(), NoMemory> {
+        put_table(out, 1, &self.mapping_table, indexes)?;
+        put_table(out, 2, &self.location_table, indexes)?;
+        put_table(out, 3, &self.function_table, indexes)?;
+        put_table(out, 4, &self.link_table, indexes)?;
+        put_text_list(out, 5, self.string_table.as_slice())?;
+        put_table(out, 6, &self.attribute_table, indexes)?;
+        put_table(out, 7, &self.stack_table, indexes)?;
         Ok(())
     }
+}
+
+// The length of the row of a table, in bytes.
+fn table_len<T: Wire, I: NewIndexes>(number: u32, table: &List<T>, indexes: &I) -> u64
+    requires below { number < 2 ^ 29 }
+    requires room { length (items_text number (map (spell T.shape) (map (moved (I.to indexes.now) T.shape) (map T.view table.now)))) < 2 ^ 63 }
+    ensures { result ≡ length (items_text number (map (spell T.shape) (map (moved (I.to indexes.now) T.shape) (map T.view table.now)))) }
+{
+    messages_len(number, table.as_slice(), indexes)
+}
+
+// Puts the row of a table.
+fn put_table<T: Wire, I: NewIndexes>(
+    out: &mut Blob,
+    number: u32,
+    table: &List<T>,
+    indexes: &I,
+) -> Result<(), NoMemory>
+    requires below { number < 2 ^ 29 }
+    requires room { length (items_text number (map (spell T.shape) (map (moved (I.to indexes.now) T.shape) (map T.view table.now)))) < 2 ^ 63 }
+    ensures ok { OnOk result (out.new ≡ out.old ++ items_text number (map (spell T.shape) (map (moved (I.to indexes.now) T.shape) (map T.view table.now)))) }
+    ensures err { OnErr result (Begins out.old out.new) }
+    ensures typed { OnOk result (Each (IsTyped T.shape) (map T.view table.now)) }
+{
+    put_messages(out, number, table.as_slice(), indexes)
 }
 
 /// The dictionary of the joined pieces, or the first fault in written order.
@@ -102,11 +138,13 @@ pub fn decode_dictionary(alloc: Global, pieces: &Pieces<'_>) -> Result<Dictionar
     Dictionary::read(alloc, pieces)
 }
 
-/// Puts the canonical spelling of a dictionary at the end, all of it or nothing.
+/// Puts the canonical spelling of a dictionary at the end, all of it or nothing. It is read as this dictionary, if no AnyValue
+/// is too deep for a file.
 pub fn encode_dictionary(tables: &Dictionary, out: &mut Blob) -> Result<(), NoMemory>
     requires { length (spell dictionary (dictionary_view tables.now)) < 2 ^ 63 }
     ensures ok { OnOk result (out.new ≡ out.old ++ spell dictionary (dictionary_view tables.now)) }
     ensures err { OnErr result (out.new ≡ out.old) }
+    ensures back { OnOk result (IsReadBack dictionary (dictionary_view tables.now)) }
 {
     tables.write(out)
 }

@@ -3,7 +3,10 @@ ghost use Rattle.std.specs.Prelude.{refl};
 ghost use Rattle.schema.specs.Messages.{function};
 ghost use Rattle.dict_rec.specs.Views.{function_view};
 
-use pb_wire::{Blob, Field, NoMemory, ReadFault, Wire, number_len, put_number, take_number};
+use pb_wire::{
+    Blob, Field, NewIndexes, NoMemory, ReadFault, TableKind, Wire, index_len, number_len,
+    put_index, put_number, take_number,
+};
 use std::alloc::Global;
 
 /// A function of the dictionary.
@@ -47,18 +50,24 @@ impl Wire for Function {
         }
     }
 
-    fn rows_len(&self) -> u64 {
-        number_len(1, self.name_strindex)
-            + number_len(2, self.system_name_strindex)
-            + number_len(3, self.filename_strindex)
+    fn rows_len<I: NewIndexes>(&self, indexes: &I) -> u64 {
+        index_len(1, TableKind::String, &self.name_strindex, indexes)
+            + index_len(2, TableKind::String, &self.system_name_strindex, indexes)
+            + index_len(3, TableKind::String, &self.filename_strindex, indexes)
             + number_len(4, self.start_line)
     }
 
     #[tactic(auto, using(pb_wire::proofs::Begins::growing))]
-    fn put_rows(&self, out: &mut Blob) -> Result<(), NoMemory> {
-        put_number(out, 1, self.name_strindex)?;
-        put_number(out, 2, self.system_name_strindex)?;
-        put_number(out, 3, self.filename_strindex)?;
+    fn put_rows<I: NewIndexes>(&self, indexes: &I, out: &mut Blob) -> Result<(), NoMemory> {
+        put_index(out, 1, TableKind::String, &self.name_strindex, indexes)?;
+        put_index(
+            out,
+            2,
+            TableKind::String,
+            &self.system_name_strindex,
+            indexes,
+        )?;
+        put_index(out, 3, TableKind::String, &self.filename_strindex, indexes)?;
         put_number(out, 4, self.start_line)?;
         Ok(())
     }

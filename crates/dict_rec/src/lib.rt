@@ -12,10 +12,11 @@ mod mapping;
 mod stack;
 
 pub use attribute::Attr;
-pub use dictionary::{Dictionary, TableKind, decode_dictionary, dictionary_len, encode_dictionary};
+pub use dictionary::{Dictionary, decode_dictionary, dictionary_len, encode_dictionary};
 pub use function::Function;
 pub use line::Line;
 pub use link::Link;
 pub use location::Location;
 pub use mapping::Mapping;
+pub use pb_wire::TableKind;
 pub use stack::Stack;

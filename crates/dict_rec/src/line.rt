@@ -3,7 +3,10 @@ ghost use Rattle.std.specs.Prelude.{refl};
 ghost use Rattle.schema.specs.Messages.{line};
 ghost use Rattle.dict_rec.specs.Views.{line_view};
 
-use pb_wire::{Blob, Field, NoMemory, ReadFault, Wire, number_len, put_number, take_number};
+use pb_wire::{
+    Blob, Field, NewIndexes, NoMemory, ReadFault, TableKind, Wire, index_len, number_len,
+    put_index, put_number, take_number,
+};
 use std::alloc::Global;
 
 /// A line of source.
@@ -43,13 +46,15 @@ impl Wire for Line {
         }
     }
 
-    fn rows_len(&self) -> u64 {
-        number_len(1, self.function_index) + number_len(2, self.line) + number_len(3, self.column)
+    fn rows_len<I: NewIndexes>(&self, indexes: &I) -> u64 {
+        index_len(1, TableKind::Function, &self.function_index, indexes)
+            + number_len(2, self.line)
+            + number_len(3, self.column)
     }
 
     #[tactic(auto, using(pb_wire::proofs::Begins::growing))]
-    fn put_rows(&self, out: &mut Blob) -> Result<(), NoMemory> {
-        put_number(out, 1, self.function_index)?;
+    fn put_rows<I: NewIndexes>(&self, indexes: &I, out: &mut Blob) -> Result<(), NoMemory> {
+        put_index(out, 1, TableKind::Function, &self.function_index, indexes)?;
         put_number(out, 2, self.line)?;
         put_number(out, 3, self.column)?;
         Ok(())

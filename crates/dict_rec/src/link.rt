@@ -3,7 +3,9 @@ ghost use Rattle.std.specs.Prelude.{refl};
 ghost use Rattle.schema.specs.Messages.{link};
 ghost use Rattle.dict_rec.specs.Views.{link_view};
 
-use pb_wire::{Blob, Field, NoMemory, ReadFault, Wire, bytes_len, put_bytes, take_bytes};
+use pb_wire::{
+    Blob, Field, NewIndexes, NoMemory, ReadFault, Wire, bytes_len, put_bytes, take_bytes,
+};
 use std::alloc::Global;
 
 /// A link of the dictionary: a span of a trace.
@@ -37,11 +39,11 @@ impl Wire for Link {
         }
     }
 
-    fn rows_len(&self) -> u64 {
+    fn rows_len<I: NewIndexes>(&self, _indexes: &I) -> u64 {
         bytes_len(1, &self.trace_id) + bytes_len(2, &self.span_id)
     }
 
-    fn put_rows(&self, out: &mut Blob) -> Result<(), NoMemory> {
+    fn put_rows<I: NewIndexes>(&self, _indexes: &I, out: &mut Blob) -> Result<(), NoMemory> {
         put_bytes(out, 1, &self.trace_id)?;
         put_bytes(out, 2, &self.span_id)?;
         Ok(())

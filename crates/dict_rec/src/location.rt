@@ -5,8 +5,9 @@ ghost use Rattle.dict_rec.specs.Views.{location_view};
 
 use crate::Line;
 use pb_wire::{
-    Blob, Field, List, NoMemory, ReadFault, Wire, add_message, add_number, messages_len,
-    number_len, numbers_len, put_messages, put_number, put_numbers, take_number,
+    Blob, Field, List, NewIndexes, NoMemory, ReadFault, TableKind, Wire, add_message, add_number,
+    index_len, indexes_len, messages_len, number_len, put_index, put_indexes, put_messages,
+    put_number, take_number,
 };
 use std::alloc::Global;
 
@@ -50,19 +51,30 @@ impl Wire for Location {
         }
     }
 
-    fn rows_len(&self) -> u64 {
-        number_len(1, self.mapping_index)
+    fn rows_len<I: NewIndexes>(&self, indexes: &I) -> u64 {
+        index_len(1, TableKind::Mapping, &self.mapping_index, indexes)
             + number_len(2, self.address)
-            + messages_len(3, &self.lines)
-            + numbers_len(4, &self.attribute_indices)
+            + messages_len(3, self.lines.as_slice(), indexes)
+            + indexes_len(
+                4,
+                TableKind::Attribute,
+                self.attribute_indices.as_slice(),
+                indexes,
+            )
     }
 
     #[tactic(auto, using(pb_wire::proofs::Begins::growing))]
-    fn put_rows(&self, out: &mut Blob) -> Result<(), NoMemory> {
-        put_number(out, 1, self.mapping_index)?;
+    fn put_rows<I: NewIndexes>(&self, indexes: &I, out: &mut Blob) -> Result<(), NoMemory> {
+        put_index(out, 1, TableKind::Mapping, &self.mapping_index, indexes)?;
         put_number(out, 2, self.address)?;
-        put_messages(out, 3, &self.lines)?;
-        put_numbers(out, 4, &self.attribute_indices)?;
+        put_messages(out, 3, self.lines.as_slice(), indexes)?;
+        put_indexes(
+            out,
+            4,
+            TableKind::Attribute,
+            self.attribute_indices.as_slice(),
+            indexes,
+        )?;
         Ok(())
     }
 }

@@ -4,8 +4,8 @@ ghost use Rattle.schema.specs.Messages.{mapping};
 ghost use Rattle.dict_rec.specs.Views.{mapping_view};
 
 use pb_wire::{
-    Blob, Field, List, NoMemory, ReadFault, Wire, add_number, number_len, numbers_len, put_number,
-    put_numbers, take_number,
+    Blob, Field, List, NewIndexes, NoMemory, ReadFault, TableKind, Wire, add_number, index_len,
+    indexes_len, number_len, put_index, put_indexes, put_number, take_number,
 };
 use std::alloc::Global;
 
@@ -54,21 +54,32 @@ impl Wire for Mapping {
         }
     }
 
-    fn rows_len(&self) -> u64 {
+    fn rows_len<I: NewIndexes>(&self, indexes: &I) -> u64 {
         number_len(1, self.memory_start)
             + number_len(2, self.memory_limit)
             + number_len(3, self.file_offset)
-            + number_len(4, self.filename_strindex)
-            + numbers_len(5, &self.attribute_indices)
+            + index_len(4, TableKind::String, &self.filename_strindex, indexes)
+            + indexes_len(
+                5,
+                TableKind::Attribute,
+                self.attribute_indices.as_slice(),
+                indexes,
+            )
     }
 
     #[tactic(auto, using(pb_wire::proofs::Begins::growing))]
-    fn put_rows(&self, out: &mut Blob) -> Result<(), NoMemory> {
+    fn put_rows<I: NewIndexes>(&self, indexes: &I, out: &mut Blob) -> Result<(), NoMemory> {
         put_number(out, 1, self.memory_start)?;
         put_number(out, 2, self.memory_limit)?;
         put_number(out, 3, self.file_offset)?;
-        put_number(out, 4, self.filename_strindex)?;
-        put_numbers(out, 5, &self.attribute_indices)?;
+        put_index(out, 4, TableKind::String, &self.filename_strindex, indexes)?;
+        put_indexes(
+            out,
+            5,
+            TableKind::Attribute,
+            self.attribute_indices.as_slice(),
+            indexes,
+        )?;
         Ok(())
     }
 }

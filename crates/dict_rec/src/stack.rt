@@ -3,7 +3,10 @@ ghost use Rattle.std.specs.Prelude.{refl};
 ghost use Rattle.schema.specs.Messages.{stack};
 ghost use Rattle.dict_rec.specs.Views.{stack_view};
 
-use pb_wire::{Blob, Field, List, NoMemory, ReadFault, Wire, add_number, numbers_len, put_numbers};
+use pb_wire::{
+    Blob, Field, List, NewIndexes, NoMemory, ReadFault, TableKind, Wire, add_number, indexes_len,
+    put_indexes,
+};
 use std::alloc::Global;
 
 /// A stack of the dictionary.
@@ -35,12 +38,23 @@ impl Wire for Stack {
         }
     }
 
-    fn rows_len(&self) -> u64 {
-        numbers_len(1, &self.location_indices)
+    fn rows_len<I: NewIndexes>(&self, indexes: &I) -> u64 {
+        indexes_len(
+            1,
+            TableKind::Location,
+            self.location_indices.as_slice(),
+            indexes,
+        )
     }
 
-    fn put_rows(&self, out: &mut Blob) -> Result<(), NoMemory> {
-        put_numbers(out, 1, &self.location_indices)?;
+    fn put_rows<I: NewIndexes>(&self, indexes: &I, out: &mut Blob) -> Result<(), NoMemory> {
+        put_indexes(
+            out,
+            1,
+            TableKind::Location,
+            self.location_indices.as_slice(),
+            indexes,
+        )?;
         Ok(())
     }
 }

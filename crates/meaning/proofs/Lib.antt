@@ -15,3 +15,4 @@ pub mod Texts
 pub mod Unused
 pub mod Ranges
 pub mod Rows
+pub mod Known

@@ -4,19 +4,18 @@ use Rattle.std.specs.Int.{w32, w64, cast_signed, cast_unsigned}
 use Rattle.std.proofs.lemmas.Int.{to_z_pos}
 use Rattle.std.proofs.lemmas.List.{length-map, length-append}
 use Rattle.schema.specs.Each.{Each}
-use Rattle.schema.specs.Fits.{Fits, FitsTogether, Lawful}
+use Rattle.schema.specs.Fits.{Fits, Lawful}
 use Rattle.schema.specs.Texts.{FitsNumber, items_text, long_field}
-use Rattle.schema.specs.Shape.{Shape, Number, Fixed, Text, Any, Index, End, One, Many, I32, IsMessage, Value, empty, Table, Mappings, Locations, Functions, Links, Strings, Attributes, Stacks}
+use Rattle.schema.specs.Shape.{Shape, Any, Index, End, One, Many, I32, IsMessage, Value, empty, Table, Mappings, Locations, Functions, Links, Strings, Attributes, Stacks}
 use Rattle.schema.specs.AnyValue.{AnyValue}
 use Rattle.schema.specs.AnyMerge.{any_levels}
-use Rattle.schema.specs.AnySpell.{AnyInRange, FitsAny}
+use Rattle.schema.specs.AnySpell.{AnyInRange}
 use Rattle.schema.specs.Merge.{merge}
-use Rattle.schema.specs.Spell.{spell}
 use Rattle.schema_laws.proofs.Growth.{InRange, AlsoIn}
 use Rattle.schema_laws.proofs.Lengths.{long_field_le}
 use Rattle.schema_laws.proofs.GrowthOfLists.{empty_in}
 use Rattle.schema_laws.proofs.Onto.{long_some}
-use Rattle.schema_laws.proofs.ReadFits.{fits_from}
+use Rattle.schema_laws.proofs.ReadFits.{fits_from, in_range}
 use Rattle.meaning.specs.Tree.{Tree, Integer, Nil, listed, elements, tree, value, IsOf, same, any_of, any_tree}
 use Rattle.meaning.specs.Tables.{Tables, IsSound, entry, field_of, place}
 use Rattle.meaning.specs.Meaning.{at_each, zero_value, entry_at, resolve, AreParts, AreElements}
@@ -29,28 +28,6 @@ use Rattle.meaning.proofs.Closed.{each_map}
 use Rattle.meaning.proofs.Forms.{by_parts, by_elements, tree_is, entry_has, IsHandedOn, tables_have}
 use Rattle.meaning.proofs.Message.{message_lawful, messages_mean, rebuilt, text_apart}
 use Rattle.meaning.proofs.Texts.{text-parts}
-
--- ---- values
-
--- a repeated row that isn't read has no elements, and AnyValues that can be written are in their range
-also_together : (k : Shape) (vs : List (Value k)) → FitsTogether k vs → AlsoIn k vs
-also_together (Any depth) vs h = each_all (FitsAny (any_levels depth)) (AnyInRange (any_levels depth)) (λ v f. f.0) vs h
-also_together k vs h = tt
-
--- a value that can be written is in its range
-pub in_range : (s : Shape) (x : Value s) → Fits s x → InRange s x
-in_range (Number w) x h = h
-in_range (Index T k) x h = h
-in_range Fixed x h = h
-in_range Text x h = h.0
-in_range (Any depth) x h = h.0
-in_range (One n k rest) x h = (in_range k x.0 h.0, in_range rest x.1 h.2)
-in_range (Many n k rest) x h = (
-  each_all (λ y. Fits k y × (length (spell k y) < 2 ^ 64)) (InRange k) (λ y f. in_range k y f.0) x.0 h.0,
-  also_together k x.0 h.1,
-  in_range rest x.1 h.2,
-)
-in_range s x h = tt
 
 -- ---- meanings
 

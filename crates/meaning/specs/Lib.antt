@@ -3,6 +3,7 @@ pub mod Tables
 pub mod Meaning
 pub mod Canonical
 pub mod Steps
+pub mod Memo
 pub mod Message
 pub mod Samples
 pub mod Ranges

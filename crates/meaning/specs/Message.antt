@@ -2,7 +2,7 @@
 -- bytes of a meaning.
 use Rattle.std.specs.Prelude.{ℕ, List, ◌++◌, map}
 use Rattle.schema.specs.Shape.{Shape, Value, Table, Mappings, Locations, Functions, Links, Strings, Attributes, Stacks}
-pub use Rattle.schema.specs.Messages.{dictionary, message}
+pub use Rattle.schema.specs.Messages.{dictionary, entries_in, message}
 use Rattle.schema.specs.Texts.{items_text}
 use Rattle.schema.specs.Spell.{spell}
 use Rattle.meaning.specs.Tree.{Tree, octets_of, tree, value}
@@ -14,13 +14,7 @@ use Rattle.meaning.specs.Canonical.{tables_of, renumber, entries, records, recor
 
 -- the entries of a dictionary, as trees
 abbrev pub tables_in : Value dictionary → Tables
-tables_in d Mappings = map (tree (entry Mappings)) d.0
-tables_in d Locations = map (tree (entry Locations)) d.1.0
-tables_in d Functions = map (tree (entry Functions)) d.1.1.0
-tables_in d Links = map (tree (entry Links)) d.1.1.1.0
-tables_in d Strings = map (tree (entry Strings)) d.1.1.1.1.0
-tables_in d Attributes = map (tree (entry Attributes)) d.1.1.1.1.1.0
-tables_in d Stacks = map (tree (entry Stacks)) d.1.1.1.1.1.1.0
+tables_in d T = map (tree (entry T)) (entries_in d T)
 
 -- the meanings of a message's records
 abbrev pub meaning_of : (k : Shape) → Value (message k) → List Tree

@@ -1,22 +1,9 @@
 -- The tables of a dictionary: what their entries are, and lists by table.
-use Rattle.std.specs.Prelude.{◌≡◌, ℕ, suc, List, [], ◌∷◌, ◌++◌, Bool, true, false, cond, ◌==◌}
-use Rattle.schema.specs.Shape.{Shape, Index, One, Many, Table, Mappings, Locations, Functions, Links, Strings, Attributes, Stacks}
+use Rattle.std.specs.Prelude.{◌≡◌, ℕ, suc, List, [], ◌∷◌, ◌++◌, Bool, true, false, cond}
+use Rattle.schema.specs.Shape.{Shape, Index, One, Many, Table}
 pub use Rattle.schema.specs.Messages.{entry}
+pub use Rattle.schema.specs.Tables.{field_of, same_table}
 use Rattle.meaning.specs.Tree.{Tree, same}
-
--- the number of a table's field in the dictionary
-abbrev pub field_of : Table → ℕ
-field_of Mappings = 1
-field_of Locations = 2
-field_of Functions = 3
-field_of Links = 4
-field_of Strings = 5
-field_of Attributes = 6
-field_of Stacks = 7
-
--- the test of equality
-abbrev pub same_table : Table → Table → Bool
-same_table T U = field_of T == field_of U
 
 -- each index of the shape has the shape of its table's entries
 abbrev pub IsSound : Shape → Type 0

@@ -19,6 +19,9 @@ ghost use Rattle.meaning.specs.Ranges.{HasRange};
 ghost use Rattle.meaning.specs.Canonical.{zeros, tables_of, visited_tables, renumber, entries, values, records, record_list, IsWithin, Covers};
 ghost use Rattle.meaning.specs.Steps.{Stands, WrittenEach, Drafted};
 
+/// Laws of values with the new indexes of a memo.
+pub mod moving;
+
 /// A value is the value of its tree.
 pub fn trees_keep_values()
     ensures { (s : Shape) → (v : Value s) → value s (tree s v) ≡ v }

@@ -19,7 +19,7 @@ use Rattle.meaning.specs.Meaning.{HasZeros}
 use Rattle.meaning.specs.Message.{tables_in}
 use Rattle.meaning.specs.Tables.{entry}
 use Rattle.meaning.specs.Tree.{tree}
-use Rattle.dict_rec.specs.declared.dictionary.TableKind.{TableKind}
+use Rattle.pb_wire.specs.declared.table_kind.TableKind.{TableKind}
 use Rattle.otlp_msg.specs.declared.refusal.Refusal.{Refusal}
 use Rattle.otlp_msg.specs.declared.refusal.Refusal.TheVariants.{Size}
 use Rattle.otlp_msg.specs.Message.{Message, message_of, message_limit, tested, with_zeros, dictionary_of, records_of}

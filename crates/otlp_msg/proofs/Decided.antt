@@ -15,7 +15,7 @@ use Rattle.pb_wire.specs.View.{fault_view}
 use Rattle.pb_wire.specs.declared.fault.Reason.TheVariants as reasons
 use Rattle.pb_wire.specs.declared.fault.Reason.{Reason}
 use Rattle.pb_wire.specs.declared.fault.WireFault.{WireFault}
-use Rattle.dict_rec.specs.declared.dictionary.TableKind.{TableKind}
+use Rattle.pb_wire.specs.declared.table_kind.TableKind.{TableKind}
 use Rattle.otlp_msg.specs.declared.path.Path.{Path}
 use Rattle.otlp_msg.specs.declared.refusal.Refusal.{Refusal}
 use Rattle.otlp_msg.specs.declared.refusal.Refusal.TheVariants.{Size, Wire, ZeroEntry, Dangling, NoMemory}

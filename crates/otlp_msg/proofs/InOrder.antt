@@ -3,8 +3,8 @@ use Rattle.std.proofs.Common.{◌≡◌, ℕ, suc, ◌≤◌, List, [], ◌∷�
 use Rattle.schema.specs.Each.{Each}
 use Rattle.schema.specs.Fits.{Lawful}
 use Rattle.schema.specs.Merge.{merge}
-use Rattle.schema.specs.Messages.{mapping, location, function, link, attribute, stack, profile, scope_profiles, resource_profiles, dictionary, envelope}
-use Rattle.schema.specs.Shape.{Shape, Number, Fixed, Bytes, Text, Any, Index, End, One, Many, IsMessage, Table, Mappings, Locations, Functions, Links, Strings, Attributes, Stacks, Value, empty}
+use Rattle.schema.specs.Messages.{mapping, location, function, attribute, stack, profile, scope_profiles, resource_profiles, dictionary, entries_in, envelope}
+use Rattle.schema.specs.Shape.{Shape, Number, Fixed, Bytes, Text, Any, Index, End, One, Many, IsMessage, Table, Mappings, Locations, Functions, Attributes, Stacks, Value, empty}
 use Rattle.schema_laws.proofs.Lawful.{lawful_from}
 use Rattle.schema_laws.proofs.Lists.{each_append}
 use Rattle.meaning.specs.Canonical.{IsIndex, IsWithin, HoldsForEach}
@@ -15,8 +15,9 @@ use Rattle.meaning.specs.Tables.{Tables, IsSound, entry}
 use Rattle.meaning.specs.Tree.{Tree, listed, tree, value}
 use Rattle.meaning.proofs.Sound.{entry_sound}
 use Rattle.meaning.proofs.Trees.{value-tree}
-use Rattle.dict_rec.specs.declared.dictionary.TableKind.{TableKind}
-use Rattle.dict_rec.specs.declared.dictionary.TableKind.TheVariants as kind
+use Rattle.pb_wire.specs.declared.table_kind.TableKind.{TableKind}
+use Rattle.pb_wire.specs.declared.table_kind.TableKind.TheVariants as kind
+use Rattle.pb_wire.specs.Tables.{table_of}
 use Rattle.otlp_msg.specs.declared.path.Holder.{Holder}
 use Rattle.otlp_msg.specs.declared.path.Holder.TheVariants as holder
 use Rattle.otlp_msg.specs.Message.{Message, message_of, message_limit, dictionary_of, records_of}
@@ -119,13 +120,7 @@ begins_from_tree s (x ∷ xs) rest e = let t : tree s x ≡ blank s = cc in sym 
 
 -- so each table does
 has_zeros : (d : Value dictionary) → BeginWithZeros (tables_in d) → (table : TableKind) → HasZeroEntry d table
-has_zeros d h kind.Mapping = begins_from_tree mapping d.0 (h Mappings).0 (h Mappings).1
-has_zeros d h kind.Location = begins_from_tree location d.1.0 (h Locations).0 (h Locations).1
-has_zeros d h kind.Function = begins_from_tree function d.1.1.0 (h Functions).0 (h Functions).1
-has_zeros d h kind.Link = begins_from_tree link d.1.1.1.0 (h Links).0 (h Links).1
-has_zeros d h kind.String = begins_from_tree Text d.1.1.1.1.0 (h Strings).0 (h Strings).1
-has_zeros d h kind.Attribute = begins_from_tree attribute d.1.1.1.1.1.0 (h Attributes).0 (h Attributes).1
-has_zeros d h kind.Stack = begins_from_tree stack d.1.1.1.1.1.1.0 (h Stacks).0 (h Stacks).1
+has_zeros d h table = let T = table_of table in begins_from_tree (entry T) (entries_in d T) (h T).0 (h T).1
 
 -- ---- the whole
 

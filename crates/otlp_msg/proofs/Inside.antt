@@ -4,7 +4,7 @@ use Rattle.std.proofs.lemmas.Bool.{ltb-true, lt-ltb}
 use Rattle.std.proofs.lemmas.List.{length-map}
 use Rattle.schema.specs.Each.{Each}
 use Rattle.schema.specs.Fits.{Lawful}
-use Rattle.schema.specs.Messages.{mapping, location, function, link, attribute, stack, profile, scope, scope_profiles, resource, resource_profiles, dictionary}
+use Rattle.schema.specs.Messages.{mapping, location, function, link, attribute, stack, profile, scope, scope_profiles, resource, resource_profiles, dictionary, entries_in}
 use Rattle.schema.specs.Shape.{Shape, Number, Fixed, Bytes, Text, Any, Index, End, One, Many, IsMessage, Value, Table, Mappings, Locations, Functions, Links, Strings, Attributes, Stacks}
 use Rattle.schema_laws.proofs.Lawful.{lawful_from}
 use Rattle.schema_laws.proofs.Lists.{each_left, each_right}
@@ -14,8 +14,8 @@ use Rattle.meaning.specs.Message.{tables_in}
 use Rattle.meaning.specs.Tables.{Tables, IsSound, entry}
 use Rattle.meaning.specs.Tree.{Tree, listed, tree}
 use Rattle.meaning.proofs.Sound.{entry_sound}
-use Rattle.dict_rec.specs.declared.dictionary.TableKind.{TableKind}
-use Rattle.dict_rec.specs.declared.dictionary.TableKind.TheVariants as kind
+use Rattle.pb_wire.specs.declared.table_kind.TableKind.{TableKind}
+use Rattle.pb_wire.specs.declared.table_kind.TableKind.TheVariants as kind
 use Rattle.otlp_msg.specs.declared.path.Holder.{Holder}
 use Rattle.otlp_msg.specs.declared.path.Holder.TheVariants as holder
 use Rattle.otlp_msg.specs.declared.refusal.Refusal.{Refusal}
@@ -23,7 +23,7 @@ use Rattle.otlp_msg.specs.Message.{Message, dictionary_of, records_of}
 use Rattle.otlp_msg.specs.Walk.{Spot, IsInside, count, dangling, dictionary_spots, each_spots, entered, entry_holder, is_index, kind_of, lengths_in, message_spots, profile_spots, resource_spots, row_spots, scope_spots, spots, table_spots, within}
 use Rattle.otlp_msg.specs.Within.{Passed}
 use Rattle.otlp_msg.proofs.Plain.{plain_within}
-use Rattle.otlp_msg.proofs.Zeros.{fails}
+use Rattle.otlp_msg.proofs.Zeros.{fails, kind_back}
 
 -- ---- the test of one index
 
@@ -169,13 +169,7 @@ count_trees s (x ∷ xs) = ap suc (sym (length-map xs (tree s)))
 
 -- so of each table of a dictionary
 pub has_lengths : (d : Value dictionary) → HasLengths (lengths_in d) (tables_in d)
-has_lengths d Mappings = count_trees mapping d.0
-has_lengths d Locations = count_trees location d.1.0
-has_lengths d Functions = count_trees function d.1.1.0
-has_lengths d Links = count_trees link d.1.1.1.0
-has_lengths d Strings = count_trees Text d.1.1.1.1.0
-has_lengths d Attributes = count_trees attribute d.1.1.1.1.1.0
-has_lengths d Stacks = count_trees stack d.1.1.1.1.1.1.0
+has_lengths d T = ap (λ U. count (entries_in d U)) (kind_back T) ∙ count_trees (entry T) (entries_in d T)
 
 -- the entries of a table
 table_inside : (len : TableKind → ℕ) (d : Tables) → HasLengths len d → (s : Shape) → IsMessage s → Lawful s → IsSound s → (table : TableKind) (xs : List (Value s))

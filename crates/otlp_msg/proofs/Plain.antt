@@ -7,8 +7,8 @@ use Rattle.schema.specs.Steps.{◌>>=◌}
 use Rattle.meaning.specs.Canonical.{HoldsForEach, HoldsForParts, IsWithin}
 use Rattle.meaning.specs.Steps.{is_plain}
 use Rattle.meaning.specs.Tables.{Tables}
-use Rattle.dict_rec.specs.declared.dictionary.TableKind.{TableKind}
-use Rattle.dict_rec.specs.declared.dictionary.TableKind.TheVariants as kind
+use Rattle.pb_wire.specs.declared.table_kind.TableKind.{TableKind}
+use Rattle.pb_wire.specs.declared.table_kind.TableKind.TheVariants as kind
 use Rattle.otlp_msg.specs.declared.path.Holder.{Holder}
 use Rattle.otlp_msg.specs.Walk.{spot, within}
 use Rattle.otlp_msg.specs.Within.{Passed, each_within, row_within, value_within}

@@ -4,8 +4,8 @@ use Rattle.std.proofs.lemmas.List.{at_drop_more, at_drop_all}
 use Rattle.schema.specs.Messages.{mapping, location, function, attribute, stack, dictionary, envelope}
 use Rattle.schema.specs.Shape.{Shape, Index, One, Many, Value}
 use Rattle.schema.specs.Steps.{◌>>=◌}
-use Rattle.dict_rec.specs.declared.dictionary.TableKind.{TableKind}
-use Rattle.dict_rec.specs.declared.dictionary.TableKind.TheVariants as kind
+use Rattle.pb_wire.specs.declared.table_kind.TableKind.{TableKind}
+use Rattle.pb_wire.specs.declared.table_kind.TableKind.TheVariants as kind
 use Rattle.otlp_msg.specs.declared.path.Holder.{Holder}
 use Rattle.otlp_msg.specs.declared.refusal.Refusal.{Refusal}
 use Rattle.otlp_msg.specs.Walk.{Spot, entered, entry_holder, row_spots, each_spots, spots, table_spots, dictionary_spots, resource_spots, message_spots, is_index, dangling, within}

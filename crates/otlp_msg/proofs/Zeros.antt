@@ -6,8 +6,8 @@ use Rattle.std.proofs.lemmas.Bool.{eqb-true, eq-eqb}
 use Rattle.std.proofs.lemmas.List.{nil_from_length}
 use Rattle.schema.specs.Each.{Each}
 use Rattle.schema.specs.Fits.{Fits, Lawful}
-use Rattle.schema.specs.Messages.{mapping, location, function, link, attribute, stack, dictionary}
-use Rattle.schema.specs.Shape.{Shape, Text, IsMessage, Value, Mappings, Locations, Functions, Links, Strings, Attributes, Stacks, empty}
+use Rattle.schema.specs.Messages.{dictionary, entries_in, entry}
+use Rattle.schema.specs.Shape.{Shape, IsMessage, Value, Table, Mappings, Locations, Functions, Links, Strings, Attributes, Stacks, empty}
 use Rattle.schema.specs.Spell.{spell}
 use Rattle.schema_laws.proofs.GrowthOfLists.{empty_in, spells_nothing}
 use Rattle.schema_laws.proofs.ReadFits.{fits_from, spelled_apart}
@@ -15,8 +15,10 @@ use Rattle.meaning.specs.Meaning.{HasZeros, blank}
 use Rattle.meaning.specs.Message.{tables_in}
 use Rattle.meaning.specs.Tree.{tree, value, same}
 use Rattle.meaning.proofs.Trees.{same-itself, same-true, value-tree}
-use Rattle.dict_rec.specs.declared.dictionary.TableKind.{TableKind}
-use Rattle.dict_rec.specs.declared.dictionary.TableKind.TheVariants as kind
+use Rattle.pb_wire.specs.declared.table_kind.TableKind.{TableKind}
+use Rattle.pb_wire.specs.declared.table_kind.TableKind.TheVariants as kind
+use Rattle.pb_wire.specs.Tables.{table_of}
+use Rattle.otlp_msg.specs.Walk.{kind_of}
 use Rattle.otlp_msg.specs.ZeroEntries.{BeginsWithZero, begins_with_zero, HasZeroEntry, has_zero_entry, all_tables, first_other}
 
 -- ---- the test of one entry
@@ -82,24 +84,22 @@ begins_to : (s : Shape) (xs : List (Value s)) → BeginsWithZero s xs → begins
 begins_to s [] h = refl
 begins_to s (x ∷ xs) h = blank_to s x h
 
+-- the kind of a table is one of this table
+pub kind_back : (T : Table) → table_of (kind_of T) ≡ T
+kind_back Mappings = refl
+kind_back Locations = refl
+kind_back Functions = refl
+kind_back Links = refl
+kind_back Strings = refl
+kind_back Attributes = refl
+kind_back Stacks = refl
+
 -- so of the tables of a dictionary
 pub has_from : (d : Value dictionary) (table : TableKind) → has_zero_entry d table ≡ true → HasZeroEntry d table
-has_from d kind.Mapping e = begins_from mapping d.0 e
-has_from d kind.Location e = begins_from location d.1.0 e
-has_from d kind.Function e = begins_from function d.1.1.0 e
-has_from d kind.Link e = begins_from link d.1.1.1.0 e
-has_from d kind.String e = begins_from Text d.1.1.1.1.0 e
-has_from d kind.Attribute e = begins_from attribute d.1.1.1.1.1.0 e
-has_from d kind.Stack e = begins_from stack d.1.1.1.1.1.1.0 e
+has_from d table e = begins_from (entry (table_of table)) (entries_in d (table_of table)) e
 
 pub has_to : (d : Value dictionary) (table : TableKind) → HasZeroEntry d table → has_zero_entry d table ≡ true
-has_to d kind.Mapping h = begins_to mapping d.0 h
-has_to d kind.Location h = begins_to location d.1.0 h
-has_to d kind.Function h = begins_to function d.1.1.0 h
-has_to d kind.Link h = begins_to link d.1.1.1.0 h
-has_to d kind.String h = begins_to Text d.1.1.1.1.0 h
-has_to d kind.Attribute h = begins_to attribute d.1.1.1.1.1.0 h
-has_to d kind.Stack h = begins_to stack d.1.1.1.1.1.1.0 h
+has_to d table h = begins_to (entry (table_of table)) (entries_in d (table_of table)) h
 
 -- a test that doesn't hold fails
 pub fails : (t : Bool) → (t ≡ true → ⊥) → t ≡ false
@@ -183,10 +183,4 @@ zero_at s (x ∷ xs) h = ap (tree s) h
 
 -- each table begins with its zero entry
 pub zeros_from : (d : Value dictionary) → ((table : TableKind) → HasZeroEntry d table) → HasZeros (tables_in d)
-zeros_from d h Mappings = zero_at mapping d.0 (h kind.Mapping)
-zeros_from d h Locations = zero_at location d.1.0 (h kind.Location)
-zeros_from d h Functions = zero_at function d.1.1.0 (h kind.Function)
-zeros_from d h Links = zero_at link d.1.1.1.0 (h kind.Link)
-zeros_from d h Strings = zero_at Text d.1.1.1.1.0 (h kind.String)
-zeros_from d h Attributes = zero_at attribute d.1.1.1.1.1.0 (h kind.Attribute)
-zeros_from d h Stacks = zero_at stack d.1.1.1.1.1.1.0 (h kind.Stack)
+zeros_from d h T = zero_at (entry T) (entries_in d T) (subst (λ U. BeginsWithZero (entry U) (entries_in d U)) (kind_back T) (h (kind_of T)))

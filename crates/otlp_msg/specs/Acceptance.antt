@@ -6,7 +6,7 @@ use Rattle.schema.specs.Messages.{envelope}
 use Rattle.schema.specs.Shape.{empty}
 use Rattle.schema.specs.Value.{IsRead}
 use Rattle.pb_wire.specs.View.{fault_view}
-use Rattle.dict_rec.specs.declared.dictionary.TableKind.{TableKind}
+use Rattle.pb_wire.specs.declared.table_kind.TableKind.{TableKind}
 use Rattle.otlp_msg.specs.declared.path.Path.{Path}
 use Rattle.otlp_msg.specs.declared.refusal.Refusal.{Refusal}
 use Rattle.otlp_msg.specs.declared.refusal.Refusal.TheVariants.{Size, Wire, ZeroEntry, Dangling, NoMemory}

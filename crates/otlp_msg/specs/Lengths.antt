@@ -1,14 +1,12 @@
 -- The code's table lengths by table.
-use Rattle.std.specs.Prelude.{ℕ}
-use Rattle.dict_rec.specs.declared.dictionary.TableKind.{TableKind}
-use Rattle.dict_rec.specs.declared.dictionary.TableKind.TheVariants.{Mapping, Location, Function, Link, String, Attribute, Stack}
+use Rattle.std.specs.Prelude.{ℕ, get_or, ◌==◌, if◌then◌else◌}
+use Rattle.pb_wire.specs.Tables.{place_of, table_of}
+use Rattle.pb_wire.specs.declared.table_kind.TableKind.{TableKind}
 use Rattle.otlp_msg.specs.declared.table_lengths.TableLengths.{TableLengths}
 
+-- an empty table counts as its zero entry alone
+abbrev pub one_at_least : ℕ → ℕ
+one_at_least n = if n == 0 then 1 else n
+
 abbrev pub lengths_view : TableLengths → TableKind → ℕ
-lengths_view l Mapping = l.mapping
-lengths_view l Location = l.location
-lengths_view l Function = l.function
-lengths_view l Link = l.link
-lengths_view l String = l.string
-lengths_view l Attribute = l.attribute
-lengths_view l Stack = l.stack
+lengths_view l table = one_at_least (get_or l.lengths (place_of (table_of table)) 0)

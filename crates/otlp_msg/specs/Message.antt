@@ -8,7 +8,7 @@ use Rattle.schema.specs.Shape.{Value, empty}
 use Rattle.schema.specs.Steps.{◌>>=◌}
 use Rattle.pb_wire.specs.declared.fault.Reason.{Reason}
 use Rattle.pb_wire.specs.declared.fault.Reason.TheVariants as reasons
-use Rattle.dict_rec.specs.declared.dictionary.TableKind.{TableKind}
+use Rattle.pb_wire.specs.declared.table_kind.TableKind.{TableKind}
 use Rattle.otlp_msg.specs.declared.refusal.Refusal.{Refusal}
 use Rattle.otlp_msg.specs.declared.refusal.Refusal.TheVariants.{Size, Wire, ZeroEntry, Dangling, NoMemory}
 use Rattle.otlp_msg.specs.Walk.{lengths_in, message_spots, within}

@@ -3,8 +3,8 @@ use Rattle.std.specs.Prelude.{ℕ, List, ◌++◌, codes}
 use Rattle.std.specs.Fmt.{decimal, signed_decimal}
 use Rattle.pb_wire.specs.declared.fault.Reason.{Reason}
 use Rattle.pb_wire.specs.declared.fault.Reason.TheVariants.{Truncated, VarintLong, FieldNumber, WireType, NotUtf8, PackedLength, TooDeep}
-use Rattle.dict_rec.specs.declared.dictionary.TableKind.{TableKind}
-use Rattle.dict_rec.specs.declared.dictionary.TableKind.TheVariants.{Mapping, Location, Function, Link, String, Attribute, Stack}
+use Rattle.pb_wire.specs.declared.table_kind.TableKind.{TableKind}
+use Rattle.pb_wire.specs.declared.table_kind.TableKind.TheVariants.{Mapping, Location, Function, Link, String, Attribute, Stack}
 use Rattle.otlp_msg.specs.declared.path.Holder.{Holder}
 use Rattle.otlp_msg.specs.declared.path.Holder.TheVariants as holder
 use Rattle.otlp_msg.specs.declared.path.Path.{Path}

@@ -1,11 +1,12 @@
 -- The indexes of a message in the order of the walk, and where each stands. (opentelemetry-proto,
 -- `profiles/v1development/profiles.proto`, says of each index field which table it points into.)
 use Rattle.std.specs.Prelude.{ℕ, suc, ℤ, pos, negsuc, List, [], ◌∷◌, ◌++◌, length, Bool, false, nat_lt, ◌==◌, if◌then◌else◌, Result, Ok, Err}
-use Rattle.schema.specs.Messages.{mapping, location, function, attribute, stack, profile, scope_profiles, resource_profiles, dictionary, envelope}
+use Rattle.schema.specs.Messages.{mapping, location, function, attribute, stack, profile, scope_profiles, resource_profiles, dictionary, entries_in, envelope}
 use Rattle.schema.specs.Shape.{Shape, Index, One, Many, Value, Table, Mappings, Locations, Functions, Links, Strings, Attributes, Stacks}
 use Rattle.meaning.specs.Canonical.{IsIndex}
-use Rattle.dict_rec.specs.declared.dictionary.TableKind.{TableKind}
-use Rattle.dict_rec.specs.declared.dictionary.TableKind.TheVariants as kind
+use Rattle.pb_wire.specs.Tables.{table_of}
+use Rattle.pb_wire.specs.declared.table_kind.TableKind.{TableKind}
+use Rattle.pb_wire.specs.declared.table_kind.TableKind.TheVariants as kind
 use Rattle.otlp_msg.specs.declared.path.Holder.{Holder}
 use Rattle.otlp_msg.specs.declared.path.Holder.TheVariants as holder
 use Rattle.otlp_msg.specs.declared.path.Path.{Path}
@@ -75,11 +76,11 @@ table_spots s table entries = each_spots (λ i. spots s (entry_holder table i)) 
 
 abbrev pub dictionary_spots : Value dictionary → List Spot
 dictionary_spots d =
-    table_spots mapping kind.Mapping d.0
-    ++ (table_spots location kind.Location d.1.0
-    ++ (table_spots function kind.Function d.1.1.0
-    ++ (table_spots attribute kind.Attribute d.1.1.1.1.1.0
-    ++ table_spots stack kind.Stack d.1.1.1.1.1.1.0)))
+    table_spots mapping kind.Mapping (entries_in d Mappings)
+    ++ (table_spots location kind.Location (entries_in d Locations)
+    ++ (table_spots function kind.Function (entries_in d Functions)
+    ++ (table_spots attribute kind.Attribute (entries_in d Attributes)
+    ++ table_spots stack kind.Stack (entries_in d Stacks))))
 
 -- of the records
 abbrev pub profile_spots : ℕ → ℕ → ℕ → Value profile → List Spot
@@ -103,13 +104,7 @@ count [] = 1
 count (x ∷ xs) = suc (length xs)
 
 abbrev pub lengths_in : Value dictionary → TableKind → ℕ
-lengths_in d kind.Mapping = count d.0
-lengths_in d kind.Location = count d.1.0
-lengths_in d kind.Function = count d.1.1.0
-lengths_in d kind.Link = count d.1.1.1.0
-lengths_in d kind.String = count d.1.1.1.1.0
-lengths_in d kind.Attribute = count d.1.1.1.1.1.0
-lengths_in d kind.Stack = count d.1.1.1.1.1.1.0
+lengths_in d table = count (entries_in d (table_of table))
 
 -- the index is in its table
 abbrev pub IsInside : (TableKind → ℕ) → Spot → Type 0

@@ -5,7 +5,7 @@ use Rattle.schema.specs.Each.{Each}
 use Rattle.schema.specs.Shape.{Shape, Index, One, Many, Value}
 use Rattle.schema.specs.Spell.{spell}
 use Rattle.schema.specs.Steps.{◌>>=◌}
-use Rattle.dict_rec.specs.declared.dictionary.TableKind.{TableKind}
+use Rattle.pb_wire.specs.declared.table_kind.TableKind.{TableKind}
 use Rattle.otlp_msg.specs.declared.path.Holder.{Holder}
 use Rattle.otlp_msg.specs.declared.refusal.Refusal.{Refusal}
 use Rattle.otlp_msg.specs.Walk.{spot, kind_of, entered, within}

@@ -22,6 +22,25 @@ pub(crate) trait Indexed: Wire {
 
 impl TableLengths {
     /// Tests the indexes of a repeated field.
+    pub fn test_indexes(
+        &self,
+        table: TableKind,
+        indexes: &[i32],
+        holder: Holder,
+        field: u32,
+    ) -> Result<(), Refusal>
+        requires { length indexes.now < 2 ^ 32 }
+        ensures { result ≡ each_within (λ i z. within (lengths_view self.now) (spot table z holder field i ∷ [])) 0 (indexes_view indexes.now) }
+    {
+        for (item, index) in indexes.iter().enumerate() {
+            if let Err(refusal) = self.test(table, *index, holder, field, item as u32) {
+                return Err(refusal);
+            }
+        }
+        Ok(())
+    }
+
+    /// Tests the indexes of a repeated field that is a list.
     pub fn test_list(
         &self,
         table: TableKind,
@@ -32,12 +51,7 @@ impl TableLengths {
         requires { length indexes.now < 2 ^ 32 }
         ensures { result ≡ each_within (λ i z. within (lengths_view self.now) (spot table z holder field i ∷ [])) 0 (indexes_view indexes.now) }
     {
-        for (item, index) in indexes.as_slice().iter().enumerate() {
-            if let Err(refusal) = self.test(table, *index, holder, field, item as u32) {
-                return Err(refusal);
-            }
-        }
-        Ok(())
+        self.test_indexes(table, indexes.as_slice(), holder, field)
     }
 
     /// Tests the indexes of the elements of a repeated message.

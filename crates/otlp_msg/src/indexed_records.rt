@@ -12,7 +12,7 @@ use crate::indexed::Indexed;
 use crate::table_lengths::TableLengths;
 use crate::{Holder, Message, ProfilePos, Refusal};
 use dict_rec::{Dictionary, TableKind};
-use prof_rec::{Profile, ResourceProfiles, Sample, ScopeProfiles, ValueType};
+use prof_rec::{Profile, ResourceProfiles, ScopeProfiles, ValueType};
 
 impl Indexed for ValueType {
     fn indexes_within(&self, lengths: &TableLengths, holder: Holder) -> Result<(), Refusal> {
@@ -22,20 +22,11 @@ impl Indexed for ValueType {
     }
 }
 
-impl Indexed for Sample {
-    fn indexes_within(&self, lengths: &TableLengths, holder: Holder) -> Result<(), Refusal> {
-        lengths.test(TableKind::Stack, self.stack_index, holder, 1, 0)?;
-        lengths.test_list(TableKind::Attribute, &self.attribute_indices, holder, 3)?;
-        lengths.test(TableKind::Link, self.link_index, holder, 4, 0)?;
-        Ok(())
-    }
-}
-
 impl Indexed for Profile {
     fn indexes_within(&self, lengths: &TableLengths, holder: Holder) -> Result<(), Refusal> {
         self.sample_type
             .indexes_within(lengths, holder.entered(1, 0))?;
-        lengths.test_each(&self.samples, holder, 2)?;
+        lengths.test_samples(&self.samples, holder, 2)?;
         self.period_type
             .indexes_within(lengths, holder.entered(5, 0))?;
         lengths.test_list(TableKind::Attribute, &self.attribute_indices, holder, 11)?;

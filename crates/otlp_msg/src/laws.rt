@@ -8,7 +8,7 @@ ghost use Rattle.pb_wire.specs.View.{fault_view};
 ghost use Rattle.pb_wire.specs.declared.fault.WireFault.{WireFault};
 ghost use Rattle.otlp_msg.specs.Acceptance.{IsAccepted, IsNotZero, IsDangling};
 ghost use Rattle.otlp_msg.specs.Message.{Message, message_of, message_limit};
-ghost use Rattle.dict_rec.specs.declared.dictionary.TableKind.{TableKind};
+ghost use Rattle.pb_wire.specs.declared.table_kind.TableKind.{TableKind};
 ghost use Rattle.otlp_msg.specs.declared.path.Path.{Path};
 ghost use Rattle.otlp_msg.specs.declared.refusal.Refusal.TheVariants.{Size, Wire, ZeroEntry, Dangling, NoMemory};
 

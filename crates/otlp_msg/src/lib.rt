@@ -11,6 +11,7 @@ mod message;
 mod path;
 mod reading;
 mod refusal;
+mod sample_indexes;
 mod table_lengths;
 mod zero_entries;
 

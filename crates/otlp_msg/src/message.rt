@@ -5,8 +5,8 @@ ghost use Rattle.otlp_msg.specs.Views.{message_view};
 
 use dict_rec::Dictionary;
 use pb_wire::{
-    Blob, Field, List, NoMemory, ReadFault, Wire, add_message, message_len, messages_len,
-    put_message, put_messages, take_message,
+    Blob, Field, List, NewIndexes, NoMemory, ReadFault, Wire, add_message, message_len,
+    messages_len, put_message, put_messages, take_message,
 };
 use prof_rec::{ResourceList, ResourceProfiles};
 use std::alloc::Global;
@@ -42,13 +42,14 @@ impl Wire for Message {
         }
     }
 
-    fn rows_len(&self) -> u64 {
-        messages_len::<ResourceProfiles>(1, &self.records) + message_len(2, &self.dictionary)
+    fn rows_len<I: NewIndexes>(&self, indexes: &I) -> u64 {
+        messages_len::<ResourceProfiles, I>(1, self.records.as_slice(), indexes)
+            + message_len(2, &self.dictionary, indexes)
     }
 
-    fn put_rows(&self, out: &mut Blob) -> Result<(), NoMemory> {
-        put_messages::<ResourceProfiles>(out, 1, &self.records)?;
-        put_message(out, 2, &self.dictionary)?;
+    fn put_rows<I: NewIndexes>(&self, indexes: &I, out: &mut Blob) -> Result<(), NoMemory> {
+        put_messages::<ResourceProfiles, I>(out, 1, self.records.as_slice(), indexes)?;
+        put_message(out, 2, &self.dictionary, indexes)?;
         Ok(())
     }
 }

@@ -5,3 +5,4 @@ pub mod Eights
 pub mod Begins
 pub mod Rows
 pub mod Utf8
+pub mod Typed

@@ -1,10 +1,11 @@
 //! The lengths of the rows of a message, in bytes. They take no memory.
 ghost use Rattle.std.specs.Prelude.{◌≡◌, ◌+◌, ◌*◌, ◌<◌, ◌≤◌, ◌^◌, length, map};
+ghost use Rattle.schema.specs.Moved.{moved};
 ghost use Rattle.schema.specs.Texts.{varint, number_to, number_field, fixed_field, bytes_field, numbers_text, fixed_text, items_text};
 ghost use Rattle.schema.specs.Spell.{spell};
 
 use crate::put::varint_len;
-use crate::{Blob, List, Number, Text, Wire};
+use crate::{Blob, NewIndexes, Number, Text, Wire};
 
 /// The length of a tag, of a length, and of the bytes behind them.
 #[inline]
@@ -75,12 +76,12 @@ pub fn text_len(number: u32, text: &Text) -> u64
 /// The length of the row of a message.
 #[inline]
 #[tactic(auto, using(schema_laws::proofs::Lengths::bytes_field_le, crate::proofs::Rows::bytes_none, crate::proofs::Rows::bytes_some, schema_laws::proofs::Onto::long_len, schema_laws::proofs::Onto::onto_len))]
-pub fn message_len<T: Wire>(number: u32, message: &T) -> u64
+pub fn message_len<T: Wire, I: NewIndexes>(number: u32, message: &T, indexes: &I) -> u64
     requires below { number < 2 ^ 29 }
-    requires room { length (bytes_field number (spell T.shape (T.view message.now))) < 2 ^ 63 }
-    ensures { result ≡ length (bytes_field number (spell T.shape (T.view message.now))) }
+    requires room { length (bytes_field number (spell T.shape (moved (I.to indexes.now) T.shape (T.view message.now)))) < 2 ^ 63 }
+    ensures { result ≡ length (bytes_field number (spell T.shape (moved (I.to indexes.now) T.shape (T.view message.now)))) }
 {
-    let len = message.rows_len();
+    let len = message.rows_len(indexes);
     if len == 0 {
         return 0;
     }
@@ -102,12 +103,12 @@ pub(crate) fn packed_len<N: Number>(items: &[N]) -> u64
 
 /// The length of the row of packed numbers.
 #[tactic(auto, using(schema_laws::proofs::Lengths::bytes_field_le, crate::proofs::Rows::bytes_none, crate::proofs::Rows::bytes_some, schema_laws::proofs::Onto::long_len))]
-pub fn numbers_len<N: Number>(number: u32, items: &List<N>) -> u64
+pub fn numbers_len<N: Number>(number: u32, items: &[N]) -> u64
     requires below { number < 2 ^ 29 }
     requires room { length (bytes_field number (numbers_text N.format (map N.value items.now))) < 2 ^ 63 }
     ensures { result ≡ length (bytes_field number (numbers_text N.format (map N.value items.now))) }
 {
-    let len = packed_len(items.as_slice());
+    let len = packed_len(items);
     if len == 0 {
         return 0;
     }
@@ -117,7 +118,7 @@ pub fn numbers_len<N: Number>(number: u32, items: &List<N>) -> u64
 /// The length of the row of packed eight-byte values.
 #[inline]
 #[tactic(auto, using(schema_laws::proofs::Lengths::bytes_field_le, crate::proofs::Rows::bytes_none, crate::proofs::Rows::bytes_some, schema_laws::proofs::Onto::long_len, schema_laws::proofs::Fixed::fixed_len))]
-pub fn fixed_list_len(number: u32, items: &List<u64>) -> u64
+pub fn fixed_list_len(number: u32, items: &[u64]) -> u64
     requires below { number < 2 ^ 29 }
     requires room { length (bytes_field number (fixed_text items.now)) < 2 ^ 63 }
     ensures { result ≡ length (bytes_field number (fixed_text items.now)) }
@@ -130,13 +131,13 @@ pub fn fixed_list_len(number: u32, items: &List<u64>) -> u64
 
 /// The length of the row of repeated bytes.
 #[tactic(auto, using(schema_laws::proofs::Onto::long_len))]
-pub fn bytes_list_len(number: u32, items: &List<Blob>) -> u64
+pub fn bytes_list_len(number: u32, items: &[Blob]) -> u64
     requires below { number < 2 ^ 29 }
     requires room { length (items_text number items.now) < 2 ^ 63 }
     ensures { result ≡ length (items_text number items.now) }
 {
     let mut len = 0;
-    for item in items.as_slice() {
+    for item in items {
         len += long_len(number, item.len() as u64);
     }
     len
@@ -144,28 +145,28 @@ pub fn bytes_list_len(number: u32, items: &List<Blob>) -> u64
 
 /// The length of the row of repeated texts.
 #[tactic(auto, using(schema_laws::proofs::Onto::long_len))]
-pub fn text_list_len(number: u32, items: &List<Text>) -> u64
+pub fn text_list_len(number: u32, items: &[Text]) -> u64
     requires below { number < 2 ^ 29 }
     requires room { length (items_text number items.now) < 2 ^ 63 }
     ensures { result ≡ length (items_text number items.now) }
 {
     let mut len = 0;
-    for item in items.as_slice() {
+    for item in items {
         len += long_len(number, item.as_bytes().len() as u64);
     }
     len
 }
 
 /// The length of the row of repeated messages.
-#[tactic(auto, using(schema_laws::proofs::Onto::long_len, schema_laws::proofs::Onto::onto_len, crate::proofs::Rows::items_of))]
-pub fn messages_len<T: Wire>(number: u32, items: &List<T>) -> u64
+#[tactic(auto, using(schema_laws::proofs::Onto::long_len, schema_laws::proofs::Onto::onto_len, crate::proofs::Rows::items_moved))]
+pub fn messages_len<T: Wire, I: NewIndexes>(number: u32, items: &[T], indexes: &I) -> u64
     requires below { number < 2 ^ 29 }
-    requires room { length (items_text number (map (spell T.shape) (map T.view items.now))) < 2 ^ 63 }
-    ensures { result ≡ length (items_text number (map (spell T.shape) (map T.view items.now))) }
+    requires room { length (items_text number (map (spell T.shape) (map (moved (I.to indexes.now) T.shape) (map T.view items.now)))) < 2 ^ 63 }
+    ensures { result ≡ length (items_text number (map (spell T.shape) (map (moved (I.to indexes.now) T.shape) (map T.view items.now)))) }
 {
     let mut len = 0;
-    for item in items.as_slice() {
-        len += long_len(number, item.rows_len());
+    for item in items {
+        len += long_len(number, item.rows_len(indexes));
     }
     len
 }

@@ -1,5 +1,5 @@
 //! Lists.
-ghost use Rattle.std.specs.Prelude.{◌≡◌, ◌++◌, ◌∷◌, [], ◌<◌, OnOk, OnErr, OnSome, length, slice_get, ◌==◌};
+ghost use Rattle.std.specs.Prelude.{◌≡◌, ◌++◌, ◌∷◌, [], ◌<◌, OnOk, OnErr, OnSome, length, slice_get, take, ◌==◌};
 ghost use Rattle.std.specs.Option.{option_copied};
 
 use crate::NoMemory;
@@ -82,6 +82,24 @@ impl<T: Drop> List<T> {
             self.items.reserve_exact(1)?;
         }
         self.items.push(element)?;
+        Ok(())
+    }
+
+    /// Keeps the first elements alone. It takes no memory.
+    pub fn truncate(&mut self, len: usize)
+        ensures { self.new ≡ take len self.old }
+    {
+        self.items.truncate(len);
+    }
+}
+
+impl<T: Copy> List<T> {
+    /// Puts copies of elements at the end. After an error, which says out of memory, the list is as before.
+    pub fn append(&mut self, elements: &[T]) -> Result<(), NoMemory>
+        ensures ok { OnOk result (self.new ≡ self.old ++ elements.now) }
+        ensures err { OnErr result (self.new ≡ self.old) }
+    {
+        self.items.extend_from_slice(elements)?;
         Ok(())
     }
 }

@@ -1,7 +1,7 @@
 //! Numbers of the schema.
 ghost use Rattle.std.specs.Prelude.{◌≡◌};
 ghost use Rattle.schema.specs.Shape.{Format, U32, U64, I32, I64, Flag, NumberValue, number_from};
-ghost use Rattle.schema.specs.Texts.{number_to};
+ghost use Rattle.schema.specs.Texts.{FitsNumber, number_to};
 
 /// A number that is written as a varint.
 pub trait Number: Copy + Drop {
@@ -13,9 +13,10 @@ pub trait Number: Copy + Drop {
     fn from_varint(varint: u64) -> Self
         ensures { value result ≡ number_from format varint };
 
-    /// The varint that stands for the number.
+    /// The varint that stands for the number, which is one of its format.
     fn to_varint(self) -> u64
-        ensures { result ≡ number_to format (value self) };
+        ensures varint { result ≡ number_to format (value self) }
+        ensures fits { FitsNumber format (value self) };
 }
 
 impl Number for u32 {

@@ -67,6 +67,19 @@ pub fn put_varint(out: &mut Blob, value: u64) -> Result<(), NoMemory>
     Ok(())
 }
 
+/// Puts the tag and the length of a field of bytes at the end. After an error the bytes so far still stand in front.
+#[inline]
+#[tactic(auto, using(crate::proofs::Begins::growing))]
+pub fn put_head(out: &mut Blob, number: u32, len: u64) -> Result<(), NoMemory>
+    requires { number < 2 ^ 29 }
+    ensures ok { OnOk result (out.new ≡ (out.old ++ varint (number * 8 + 2)) ++ varint len) }
+    ensures err { OnErr result (Begins out.old out.new) }
+{
+    push_varint(out, number as u64 * 8 + 2)?;
+    push_varint(out, len)?;
+    Ok(())
+}
+
 /// Puts a tag, a length and bytes at the end; after want of memory the bytes so far still stand in front.
 #[inline]
 #[tactic(auto, using(crate::proofs::Begins::growing), unfolding(schema::specs::Texts::long_field))]

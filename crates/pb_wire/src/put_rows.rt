@@ -1,12 +1,16 @@
-//! Writing the rows of a message. After want of memory a part of the row may stand at the end of `out`.
-ghost use Rattle.std.specs.Prelude.{◌≡◌, ◌+◌, ◌*◌, ◌<◌, ◌≤◌, ◌^◌, ◌++◌, length, map, OnOk, OnErr};
-ghost use Rattle.schema.specs.Texts.{varint, number_to, number_field, fixed_field, long_field, bytes_field, numbers_text, fixed_text, items_text};
+//! Writing the rows of a message. After an error a part of the row may stand at the end of `out`.
+ghost use Rattle.std.specs.Prelude.{◌≡◌, ◌+◌, ◌*◌, ◌<◌, ◌≤◌, ◌^◌, ◌++◌, length, map, true, OnOk, OnErr};
+ghost use Rattle.std.specs.Str.{is_utf8};
+ghost use Rattle.schema.specs.Each.{Each};
+ghost use Rattle.schema.specs.Moved.{moved};
+ghost use Rattle.schema.specs.Typed.{IsTyped};
+ghost use Rattle.schema.specs.Texts.{FitsNumber, varint, number_to, number_field, fixed_field, long_field, bytes_field, numbers_text, fixed_text, items_text};
 ghost use Rattle.schema.specs.Spell.{len_onto, spell};
 ghost use Rattle.pb_wire.specs.Answers.{Begins};
 
 use crate::lengths::packed_len;
 use crate::put::{push_long, push_varint};
-use crate::{Blob, List, NoMemory, Number, Text, Wire};
+use crate::{Blob, NewIndexes, NoMemory, Number, Text, Wire};
 
 /// Puts a number that is not 0.
 #[inline]
@@ -15,6 +19,7 @@ pub fn put_number<N: Number>(out: &mut Blob, number: u32, value: N) -> Result<()
     requires { number < 2 ^ 29 }
     ensures ok { OnOk result (out.new ≡ out.old ++ number_field number (number_to N.format (N.value value))) }
     ensures err { OnErr result (Begins out.old out.new) }
+    ensures typed { OnOk result (FitsNumber N.format (N.value value)) }
 {
     let value = value.to_varint();
     if value == 0 {
@@ -32,6 +37,7 @@ pub fn put_fixed(out: &mut Blob, number: u32, value: u64) -> Result<(), NoMemory
     requires { number < 2 ^ 29 }
     ensures ok { OnOk result (out.new ≡ out.old ++ fixed_field number value) }
     ensures err { OnErr result (Begins out.old out.new) }
+    ensures typed { OnOk result (value < 2 ^ 64) }
 {
     if value == 0 {
         return Ok(());
@@ -73,6 +79,7 @@ pub fn put_text(out: &mut Blob, number: u32, text: &Text) -> Result<(), NoMemory
     requires { number < 2 ^ 29 }
     ensures ok { OnOk result (out.new ≡ out.old ++ bytes_field number text.now) }
     ensures err { OnErr result (Begins out.old out.new) }
+    ensures typed { OnOk result (is_utf8 text.now ≡ true) }
 {
     put_slice(out, number, text.as_bytes())?;
     Ok(())
@@ -80,12 +87,12 @@ pub fn put_text(out: &mut Blob, number: u32, text: &Text) -> Result<(), NoMemory
 
 /// Puts each element behind its own tag and length, also an empty one.
 #[tactic(auto, using(crate::proofs::Begins::growing))]
-pub fn put_bytes_list(out: &mut Blob, number: u32, items: &List<Blob>) -> Result<(), NoMemory>
+pub fn put_bytes_list(out: &mut Blob, number: u32, items: &[Blob]) -> Result<(), NoMemory>
     requires { number < 2 ^ 29 }
     ensures ok { OnOk result (out.new ≡ out.old ++ items_text number items.now) }
     ensures err { OnErr result (Begins out.old out.new) }
 {
-    for item in items.as_slice() {
+    for item in items {
         if let Err(stop) = push_long(out, number, item.as_slice()) {
             return Err(stop);
         }
@@ -94,13 +101,14 @@ pub fn put_bytes_list(out: &mut Blob, number: u32, items: &List<Blob>) -> Result
 }
 
 /// Puts each element behind its own tag and length, also an empty one.
-#[tactic(auto, using(crate::proofs::Begins::growing))]
-pub fn put_text_list(out: &mut Blob, number: u32, items: &List<Text>) -> Result<(), NoMemory>
+#[tactic(auto, using(crate::proofs::Typed::each_next, crate::proofs::Begins::growing))]
+pub fn put_text_list(out: &mut Blob, number: u32, items: &[Text]) -> Result<(), NoMemory>
     requires { number < 2 ^ 29 }
     ensures ok { OnOk result (out.new ≡ out.old ++ items_text number items.now) }
     ensures err { OnErr result (Begins out.old out.new) }
+    ensures typed { OnOk result (Each (λ text. is_utf8 text ≡ true) items.now) }
 {
-    for item in items.as_slice() {
+    for item in items {
         if let Err(stop) = push_long(out, number, item.as_bytes()) {
             return Err(stop);
         }
@@ -110,45 +118,66 @@ pub fn put_text_list(out: &mut Blob, number: u32, items: &List<Text>) -> Result<
 
 /// Puts a message, whose length is known, behind its tag and length.
 #[tactic(auto, using(crate::proofs::Begins::growing, schema_laws::proofs::Onto::long_onto, schema_laws::proofs::Onto::onto, schema_laws::proofs::Onto::onto_len))]
-fn push_message<T: Wire>(out: &mut Blob, number: u32, len: u64, message: &T) -> Result<(), NoMemory>
+fn push_message<T: Wire, I: NewIndexes>(
+    out: &mut Blob,
+    number: u32,
+    len: u64,
+    message: &T,
+    indexes: &I,
+) -> Result<(), NoMemory>
     requires below { number < 2 ^ 29 }
-    requires same { len ≡ len_onto T.shape 0 (T.view message.now) }
+    requires same { len ≡ len_onto T.shape 0 (moved (I.to indexes.now) T.shape (T.view message.now)) }
     requires room { len < 2 ^ 63 }
-    ensures ok { OnOk result (out.new ≡ out.old ++ long_field number (spell T.shape (T.view message.now))) }
+    ensures ok { OnOk result (out.new ≡ out.old ++ long_field number (spell T.shape (moved (I.to indexes.now) T.shape (T.view message.now)))) }
     ensures err { OnErr result (Begins out.old out.new) }
+    ensures typed { OnOk result (IsTyped T.shape (T.view message.now)) }
 {
     push_varint(out, number as u64 * 8 + 2)?;
     push_varint(out, len)?;
-    message.put_rows(out)?;
+    message.put_rows(indexes, out)?;
     Ok(())
 }
 
 /// Puts a message that is not empty.
-#[tactic(auto, using(crate::proofs::Begins::growing, schema_laws::proofs::Lengths::bytes_field_le, crate::proofs::Rows::left_out, crate::proofs::Rows::bytes_some, schema_laws::proofs::Onto::onto_len))]
-pub fn put_message<T: Wire>(out: &mut Blob, number: u32, message: &T) -> Result<(), NoMemory>
+#[tactic(auto, using(crate::proofs::Begins::growing, schema_laws::proofs::Lengths::bytes_field_le, crate::proofs::Typed::none_put, crate::proofs::Rows::bytes_some, schema_laws::proofs::Onto::onto_len))]
+pub fn put_message<T: Wire, I: NewIndexes>(
+    out: &mut Blob,
+    number: u32,
+    message: &T,
+    indexes: &I,
+) -> Result<(), NoMemory>
     requires below { number < 2 ^ 29 }
-    requires room { length (bytes_field number (spell T.shape (T.view message.now))) < 2 ^ 63 }
-    ensures ok { OnOk result (out.new ≡ out.old ++ bytes_field number (spell T.shape (T.view message.now))) }
+    requires room { length (bytes_field number (spell T.shape (moved (I.to indexes.now) T.shape (T.view message.now)))) < 2 ^ 63 }
+    ensures ok { OnOk result (out.new ≡ out.old ++ bytes_field number (spell T.shape (moved (I.to indexes.now) T.shape (T.view message.now)))) }
     ensures err { OnErr result (Begins out.old out.new) }
+    ensures typed { OnOk result (IsTyped T.shape (T.view message.now)) }
 {
-    let len = message.rows_len();
+    let len = message.rows_len(indexes);
     if len == 0 {
+        // This puts nothing. That the message is typed is known where its rows are put.
+        message.put_rows(indexes, out)?;
         return Ok(());
     }
-    push_message(out, number, len, message)?;
+    push_message(out, number, len, message, indexes)?;
     Ok(())
 }
 
 /// Puts each message behind its own tag and length, also an empty one.
-#[tactic(auto, using(crate::proofs::Begins::growing))]
-pub fn put_messages<T: Wire>(out: &mut Blob, number: u32, items: &List<T>) -> Result<(), NoMemory>
+#[tactic(auto, using(crate::proofs::Typed::each_next, crate::proofs::Begins::growing))]
+pub fn put_messages<T: Wire, I: NewIndexes>(
+    out: &mut Blob,
+    number: u32,
+    items: &[T],
+    indexes: &I,
+) -> Result<(), NoMemory>
     requires below { number < 2 ^ 29 }
-    requires room { length (items_text number (map (spell T.shape) (map T.view items.now))) < 2 ^ 63 }
-    ensures ok { OnOk result (out.new ≡ out.old ++ items_text number (map (spell T.shape) (map T.view items.now))) }
+    requires room { length (items_text number (map (spell T.shape) (map (moved (I.to indexes.now) T.shape) (map T.view items.now)))) < 2 ^ 63 }
+    ensures ok { OnOk result (out.new ≡ out.old ++ items_text number (map (spell T.shape) (map (moved (I.to indexes.now) T.shape) (map T.view items.now)))) }
     ensures err { OnErr result (Begins out.old out.new) }
+    ensures typed { OnOk result (Each (IsTyped T.shape) (map T.view items.now)) }
 {
-    for item in items.as_slice() {
-        if let Err(stop) = push_message(out, number, item.rows_len(), item) {
+    for item in items {
+        if let Err(stop) = push_message(out, number, item.rows_len(indexes), item, indexes) {
             return Err(stop);
         }
     }
@@ -156,10 +185,11 @@ pub fn put_messages<T: Wire>(out: &mut Blob, number: u32, items: &List<T>) -> Re
 }
 
 /// Puts the varints of numbers.
-#[tactic(auto, using(crate::proofs::Begins::growing))]
+#[tactic(auto, using(crate::proofs::Typed::each_next, crate::proofs::Begins::growing))]
 fn push_packed<N: Number>(out: &mut Blob, items: &[N]) -> Result<(), NoMemory>
     ensures ok { OnOk result (out.new ≡ out.old ++ numbers_text N.format (map N.value items.now)) }
     ensures err { OnErr result (Begins out.old out.new) }
+    ensures typed { OnOk result (Each (FitsNumber N.format) (map N.value items.now)) }
 {
     for item in items {
         if let Err(stop) = push_varint(out, item.to_varint()) {
@@ -170,14 +200,14 @@ fn push_packed<N: Number>(out: &mut Blob, items: &[N]) -> Result<(), NoMemory>
 }
 
 /// Puts numbers, unless there are none, packed behind one tag and length.
-#[tactic(auto, using(crate::proofs::Begins::growing, schema_laws::proofs::Onto::long_onto, schema_laws::proofs::Lengths::bytes_field_le, crate::proofs::Rows::left_out, crate::proofs::Rows::bytes_some))]
-pub fn put_numbers<N: Number>(out: &mut Blob, number: u32, items: &List<N>) -> Result<(), NoMemory>
+#[tactic(auto, using(crate::proofs::Typed::none_fit, crate::proofs::Begins::growing, schema_laws::proofs::Onto::long_onto, schema_laws::proofs::Lengths::bytes_field_le, crate::proofs::Rows::left_out, crate::proofs::Rows::bytes_some))]
+pub fn put_numbers<N: Number>(out: &mut Blob, number: u32, items: &[N]) -> Result<(), NoMemory>
     requires below { number < 2 ^ 29 }
     requires room { length (bytes_field number (numbers_text N.format (map N.value items.now))) < 2 ^ 63 }
     ensures ok { OnOk result (out.new ≡ out.old ++ bytes_field number (numbers_text N.format (map N.value items.now))) }
     ensures err { OnErr result (Begins out.old out.new) }
+    ensures typed { OnOk result (Each (FitsNumber N.format) (map N.value items.now)) }
 {
-    let items = items.as_slice();
     let len = packed_len(items);
     if len == 0 {
         return Ok(());
@@ -189,10 +219,11 @@ pub fn put_numbers<N: Number>(out: &mut Blob, number: u32, items: &List<N>) -> R
 }
 
 /// Puts eight bytes for each number, the low ones first.
-#[tactic(auto, using(crate::proofs::Begins::growing))]
+#[tactic(auto, using(crate::proofs::Typed::each_next, crate::proofs::Begins::growing))]
 fn push_eights(out: &mut Blob, items: &[u64]) -> Result<(), NoMemory>
     ensures ok { OnOk result (out.new ≡ out.old ++ fixed_text items.now) }
     ensures err { OnErr result (Begins out.old out.new) }
+    ensures typed { OnOk result (Each (λ x. x < 2 ^ 64) items.now) }
 {
     for item in items {
         if let Err(stop) = out.append(&item.to_le_bytes()) {
@@ -204,17 +235,18 @@ fn push_eights(out: &mut Blob, items: &[u64]) -> Result<(), NoMemory>
 
 /// Puts eight-byte values, unless there are none, packed behind one tag and length.
 #[tactic(auto, using(crate::proofs::Begins::growing, schema_laws::proofs::Onto::long_onto, schema_laws::proofs::Lengths::bytes_field_le, crate::proofs::Rows::left_out, crate::proofs::Rows::bytes_some, schema_laws::proofs::Fixed::fixed_len))]
-pub fn put_fixed_list(out: &mut Blob, number: u32, items: &List<u64>) -> Result<(), NoMemory>
+pub fn put_fixed_list(out: &mut Blob, number: u32, items: &[u64]) -> Result<(), NoMemory>
     requires below { number < 2 ^ 29 }
     requires room { length (bytes_field number (fixed_text items.now)) < 2 ^ 63 }
     ensures ok { OnOk result (out.new ≡ out.old ++ bytes_field number (fixed_text items.now)) }
     ensures err { OnErr result (Begins out.old out.new) }
+    ensures typed { OnOk result (Each (λ x. x < 2 ^ 64) items.now) }
 {
     if items.is_empty() {
         return Ok(());
     }
     push_varint(out, number as u64 * 8 + 2)?;
     push_varint(out, items.len() as u64 * 8)?;
-    push_eights(out, items.as_slice())?;
+    push_eights(out, items)?;
     Ok(())
 }

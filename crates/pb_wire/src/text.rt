@@ -1,5 +1,6 @@
 //! Texts.
-ghost use Rattle.std.specs.Prelude.{◌≡◌, ◌++◌, [], List, ℕ, IfOk, OnOk, OnErr, string_bytes};
+ghost use Rattle.std.specs.Prelude.{◌≡◌, ◌++◌, [], List, ℕ, IfOk, OnOk, OnErr, string_bytes, true};
+ghost use Rattle.std.specs.Str.{is_utf8};
 
 use crate::NoMemory;
 use std::alloc::Global;
@@ -74,8 +75,10 @@ impl Text {
         self.inner.as_str()
     }
 
+    /// The bytes of the text, which are UTF-8.
     pub fn as_bytes(&self) -> &[u8]
-        ensures { result.now ≡ self.now }
+        ensures same { result.now ≡ self.now }
+        ensures utf8 { is_utf8 self.now ≡ true }
     {
         self.inner.as_bytes()
     }

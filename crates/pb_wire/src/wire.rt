@@ -2,18 +2,22 @@
 ghost use Rattle.std.specs.Prelude.{◌≡◌, ◌+◌, ◌<◌, ◌≤◌, ◌^◌, ◌++◌, length, true, OnOk, OnErr};
 ghost use Rattle.schema.specs.Field.{bytes_of};
 ghost use Rattle.schema.specs.Fits.{is_lawful};
+ghost use Rattle.schema.specs.Moved.{moved};
 ghost use Rattle.schema.specs.Merge.{take_field, merge, merge_all};
 ghost use Rattle.schema.specs.Shape.{Shape, Value, IsMessage, empty};
 ghost use Rattle.schema.specs.Spell.{spell, spell_onto, len_onto};
+ghost use Rattle.schema.specs.ReadBack.{IsReadBack};
+ghost use Rattle.schema.specs.Typed.{IsTyped};
 ghost use Rattle.pb_wire.specs.Answers.{Took, Reads, Begins};
 ghost use Rattle.pb_wire.specs.View.{payload_view, field_view};
 
 use crate::next::front_field;
-use crate::{Blob, Field, NoMemory, Pieces, ReadFault, WireFault};
+use crate::{AsTheyStand, Blob, Field, NewIndexes, NoMemory, Pieces, ReadFault, WireFault};
 use std::alloc::Global;
 
 /// A message of the schema. An implementation gives its shape, its view as a value of that shape, and one line for each
-/// row in `take`, `rows_len` and `put_rows`.
+/// row in `take`, `rows_len` and `put_rows`. A row of indexes is written by `index_len` and `put_index`, or `indexes_len` and
+/// `put_indexes`.
 pub trait Wire: Drop {
     ghost shape: { Shape };
 
@@ -29,16 +33,18 @@ pub trait Wire: Drop {
         requires below { field.now.end < 2 ^ 63 }
         ensures { Took (view self.new) result (take_field shape field.now.at field.now.end (field_view field.now) (view self.old)) };
 
-    /// The length of the rows' canonical spelling. It takes no memory.
-    fn rows_len(&self) -> u64
-        requires { len_onto shape 0 (view self.now) < 2 ^ 63 }
-        ensures { result ≡ len_onto shape 0 (view self.now) };
+    /// The length of the rows' canonical spelling with new indexes, in bytes. It takes no memory.
+    fn rows_len<I: NewIndexes>(&self, indexes: &I) -> u64
+        requires { len_onto shape 0 (moved (I.to indexes.now) shape (view self.now)) < 2 ^ 63 }
+        ensures { result ≡ len_onto shape 0 (moved (I.to indexes.now) shape (view self.now)) };
 
-    /// Puts the rows' canonical spelling at the end; after want of memory the bytes so far still stand in front.
-    fn put_rows(&self, out: &mut Blob) -> Result<(), NoMemory>
-        requires { len_onto shape 0 (view self.now) < 2 ^ 63 }
-        ensures ok { OnOk result (out.new ≡ spell_onto shape out.old (view self.now)) }
-        ensures err { OnErr result (Begins out.old out.new) };
+    /// Puts the rows' canonical spelling with new indexes at the end. Numbers are then known in their range and texts as UTF-8,
+    /// since each was read. After an error, which says out of memory, the bytes so far still stand in front.
+    fn put_rows<I: NewIndexes>(&self, indexes: &I, out: &mut Blob) -> Result<(), NoMemory>
+        requires { len_onto shape 0 (moved (I.to indexes.now) shape (view self.now)) < 2 ^ 63 }
+        ensures ok { OnOk result (out.new ≡ spell_onto shape out.old (moved (I.to indexes.now) shape (view self.now))) }
+        ensures err { OnErr result (Begins out.old out.new) }
+        ensures typed { OnOk result (IsTyped shape (view self.now)) };
 
     /// The shape is that of a message.
     ghost message: { IsMessage shape };
@@ -88,23 +94,23 @@ pub trait Wire: Drop {
     }
 
     /// The length of the canonical spelling. It takes no memory.
-    #[tactic(auto, using(schema_laws::proofs::Onto::onto_len))]
     final fn written_len(&self) -> u64
         requires { length (spell shape (view self.now)) < 2 ^ 63 }
         ensures { result ≡ length (spell shape (view self.now)) }
     {
-        self.rows_len()
+        self.rows_len(&AsTheyStand)
     }
 
-    /// Puts the canonical spelling at the end, all of it or nothing.
-    #[tactic(auto, using(schema_laws::proofs::Onto::onto_len, schema_laws::proofs::Onto::onto))]
+    /// Puts the canonical spelling at the end, all of it or nothing. It is read as this message, wherever it begins, if no AnyValue
+    /// is too deep for a file.
     final fn write(&self, out: &mut Blob) -> Result<(), NoMemory>
         requires { length (spell shape (view self.now)) < 2 ^ 63 }
         ensures ok { OnOk result (out.new ≡ out.old ++ spell shape (view self.now)) }
         ensures err { OnErr result (out.new ≡ out.old) }
+        ensures back { OnOk result (IsReadBack shape (view self.now)) }
     {
         let begin = out.len();
-        if let Err(stop) = self.put_rows(out) {
+        if let Err(stop) = self.put_rows(&AsTheyStand, out) {
             out.truncate(begin);
             return Err(stop);
         }

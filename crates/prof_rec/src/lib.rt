@@ -2,10 +2,15 @@
 //! the row's name.
 #![tactic(auto)]
 
+mod columns;
+mod head;
 mod profile;
 mod resource;
 mod resource_profiles;
 mod sample;
+mod sample_ref;
+mod sample_rows;
+mod samples;
 mod scope;
 mod scope_profiles;
 mod value_type;
@@ -14,6 +19,9 @@ pub use profile::Profile;
 pub use resource::Resource;
 pub use resource_profiles::{ResourceList, ResourceProfiles};
 pub use sample::Sample;
+pub use sample_ref::SampleRef;
+pub use sample_rows::{put_samples, samples_len};
+pub use samples::Samples;
 pub use scope::Scope;
 pub use scope_profiles::ScopeProfiles;
 pub use value_type::ValueType;

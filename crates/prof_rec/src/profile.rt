@@ -3,12 +3,12 @@ ghost use Rattle.std.specs.Prelude.{refl};
 ghost use Rattle.schema.specs.Messages.{profile};
 ghost use Rattle.prof_rec.specs.Views.{profile_view};
 
-use crate::{Sample, ValueType};
+use crate::{Samples, ValueType, put_samples, samples_len};
 use pb_wire::{
-    Blob, Field, List, NoMemory, ReadFault, Text, Wire, add_message, add_number, bytes_len,
-    fixed_len, message_len, messages_len, number_len, numbers_len, put_bytes, put_fixed,
-    put_message, put_messages, put_number, put_numbers, put_text, take_bytes, take_fixed,
-    take_message, take_number, take_text, text_len,
+    Blob, Field, List, NewIndexes, NoMemory, ReadFault, TableKind, Text, Wire, add_number,
+    bytes_len, fixed_len, indexes_len, message_len, number_len, put_bytes, put_fixed, put_indexes,
+    put_message, put_number, put_text, take_bytes, take_fixed, take_message, take_number,
+    take_text, text_len,
 };
 use std::alloc::Global;
 
@@ -17,7 +17,7 @@ use std::alloc::Global;
 pub struct Profile {
     /// What the values of the samples are.
     pub sample_type: ValueType,
-    pub samples: List<Sample>,
+    pub samples: Samples,
     /// When the profile was collected, in nanoseconds since 1970.
     pub time_unix_nano: u64,
     /// How long it took, in nanoseconds.
@@ -46,7 +46,7 @@ impl Wire for Profile {
     fn none(alloc: Global) -> Profile {
         Profile {
             sample_type: ValueType::none(alloc),
-            samples: List::begin(alloc),
+            samples: Samples::begin(alloc),
             time_unix_nano: 0,
             duration_nano: 0,
             period_type: ValueType::none(alloc),
@@ -62,7 +62,7 @@ impl Wire for Profile {
     fn take(&mut self, alloc: Global, field: &Field<'_>) -> Result<(), ReadFault> {
         match field.number {
             1 => take_message(&mut self.sample_type, alloc, field),
-            2 => add_message(&mut self.samples, alloc, field),
+            2 => self.samples.take(alloc, field),
             3 => take_fixed(&mut self.time_unix_nano, field),
             4 => take_number(&mut self.duration_nano, field),
             5 => take_message(&mut self.period_type, alloc, field),
@@ -76,33 +76,44 @@ impl Wire for Profile {
         }
     }
 
-    fn rows_len(&self) -> u64 {
-        message_len(1, &self.sample_type)
-            + messages_len(2, &self.samples)
+    fn rows_len<I: NewIndexes>(&self, indexes: &I) -> u64 {
+        message_len(1, &self.sample_type, indexes)
+            + samples_len(2, &self.samples, indexes)
             + fixed_len(3, self.time_unix_nano)
             + number_len(4, self.duration_nano)
-            + message_len(5, &self.period_type)
+            + message_len(5, &self.period_type, indexes)
             + number_len(6, self.period)
             + bytes_len(7, &self.profile_id)
             + number_len(8, self.dropped_attributes_count)
             + text_len(9, &self.original_payload_format)
             + bytes_len(10, &self.original_payload)
-            + numbers_len(11, &self.attribute_indices)
+            + indexes_len(
+                11,
+                TableKind::Attribute,
+                self.attribute_indices.as_slice(),
+                indexes,
+            )
     }
 
     #[tactic(auto, using(pb_wire::proofs::Begins::growing))]
-    fn put_rows(&self, out: &mut Blob) -> Result<(), NoMemory> {
-        put_message(out, 1, &self.sample_type)?;
-        put_messages(out, 2, &self.samples)?;
+    fn put_rows<I: NewIndexes>(&self, indexes: &I, out: &mut Blob) -> Result<(), NoMemory> {
+        put_message(out, 1, &self.sample_type, indexes)?;
+        put_samples(out, 2, &self.samples, indexes)?;
         put_fixed(out, 3, self.time_unix_nano)?;
         put_number(out, 4, self.duration_nano)?;
-        put_message(out, 5, &self.period_type)?;
+        put_message(out, 5, &self.period_type, indexes)?;
         put_number(out, 6, self.period)?;
         put_bytes(out, 7, &self.profile_id)?;
         put_number(out, 8, self.dropped_attributes_count)?;
         put_text(out, 9, &self.original_payload_format)?;
         put_bytes(out, 10, &self.original_payload)?;
-        put_numbers(out, 11, &self.attribute_indices)?;
+        put_indexes(
+            out,
+            11,
+            TableKind::Attribute,
+            self.attribute_indices.as_slice(),
+            indexes,
+        )?;
         Ok(())
     }
 }

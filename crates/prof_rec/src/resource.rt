@@ -5,8 +5,9 @@ ghost use Rattle.prof_rec.specs.Views.{resource_view};
 
 use any_value::KeyValue;
 use pb_wire::{
-    Blob, Field, List, NoMemory, ReadFault, Wire, add_bytes, add_message, bytes_list_len,
-    messages_len, number_len, put_bytes_list, put_messages, put_number, take_number,
+    Blob, Field, List, NewIndexes, NoMemory, ReadFault, Wire, add_bytes, add_message,
+    bytes_list_len, messages_len, number_len, put_bytes_list, put_messages, put_number,
+    take_number,
 };
 use std::alloc::Global;
 
@@ -45,17 +46,17 @@ impl Wire for Resource {
         }
     }
 
-    fn rows_len(&self) -> u64 {
-        messages_len(1, &self.attributes)
+    fn rows_len<I: NewIndexes>(&self, indexes: &I) -> u64 {
+        messages_len(1, self.attributes.as_slice(), indexes)
             + number_len(2, self.dropped_attributes_count)
-            + bytes_list_len(3, &self.opaque)
+            + bytes_list_len(3, self.opaque.as_slice())
     }
 
     #[tactic(auto, using(pb_wire::proofs::Begins::growing))]
-    fn put_rows(&self, out: &mut Blob) -> Result<(), NoMemory> {
-        put_messages(out, 1, &self.attributes)?;
+    fn put_rows<I: NewIndexes>(&self, indexes: &I, out: &mut Blob) -> Result<(), NoMemory> {
+        put_messages(out, 1, self.attributes.as_slice(), indexes)?;
         put_number(out, 2, self.dropped_attributes_count)?;
-        put_bytes_list(out, 3, &self.opaque)?;
+        put_bytes_list(out, 3, self.opaque.as_slice())?;
         Ok(())
     }
 }

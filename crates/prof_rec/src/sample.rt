@@ -1,11 +1,12 @@
 //! A sample of a profile.
-ghost use Rattle.std.specs.Prelude.{refl};
+ghost use Rattle.std.specs.Prelude.{◌≡◌, refl};
 ghost use Rattle.schema.specs.Messages.{sample};
+ghost use Rattle.prof_rec.specs.SampleRefs.{sample_of};
 ghost use Rattle.prof_rec.specs.Views.{sample_view};
 
+use crate::SampleRef;
 use pb_wire::{
-    Blob, Field, List, NoMemory, ReadFault, Wire, add_fixed, add_number, fixed_list_len,
-    number_len, numbers_len, put_fixed_list, put_number, put_numbers, take_number,
+    Blob, Field, List, NewIndexes, NoMemory, ReadFault, Wire, add_fixed, add_number, take_number,
 };
 use std::alloc::Global;
 
@@ -54,21 +55,26 @@ impl Wire for Sample {
         }
     }
 
-    fn rows_len(&self) -> u64 {
-        number_len(1, self.stack_index)
-            + numbers_len(2, &self.values)
-            + numbers_len(3, &self.attribute_indices)
-            + number_len(4, self.link_index)
-            + fixed_list_len(5, &self.timestamps_unix_nano)
+    fn rows_len<I: NewIndexes>(&self, indexes: &I) -> u64 {
+        self.parts().rows_len(indexes)
     }
 
-    #[tactic(auto, using(pb_wire::proofs::Begins::growing))]
-    fn put_rows(&self, out: &mut Blob) -> Result<(), NoMemory> {
-        put_number(out, 1, self.stack_index)?;
-        put_numbers(out, 2, &self.values)?;
-        put_numbers(out, 3, &self.attribute_indices)?;
-        put_number(out, 4, self.link_index)?;
-        put_fixed_list(out, 5, &self.timestamps_unix_nano)?;
-        Ok(())
+    fn put_rows<I: NewIndexes>(&self, indexes: &I, out: &mut Blob) -> Result<(), NoMemory> {
+        self.parts().put_rows(indexes, out)
+    }
+}
+
+impl Sample {
+    /// The sample with its lists as slices. It takes no memory.
+    pub fn parts(&self) -> SampleRef<'_>
+        ensures { sample_of result ≡ self.now }
+    {
+        SampleRef {
+            stack_index: self.stack_index,
+            values: self.values.as_slice(),
+            attribute_indices: self.attribute_indices.as_slice(),
+            link_index: self.link_index,
+            timestamps_unix_nano: self.timestamps_unix_nano.as_slice(),
+        }
     }
 }

@@ -5,8 +5,8 @@ ghost use Rattle.prof_rec.specs.Views.{scope_view};
 
 use any_value::KeyValue;
 use pb_wire::{
-    Blob, Field, List, NoMemory, ReadFault, Text, Wire, add_message, messages_len, number_len,
-    put_messages, put_number, put_text, take_number, take_text, text_len,
+    Blob, Field, List, NewIndexes, NoMemory, ReadFault, Text, Wire, add_message, messages_len,
+    number_len, put_messages, put_number, put_text, take_number, take_text, text_len,
 };
 use std::alloc::Global;
 
@@ -47,18 +47,18 @@ impl Wire for Scope {
         }
     }
 
-    fn rows_len(&self) -> u64 {
+    fn rows_len<I: NewIndexes>(&self, indexes: &I) -> u64 {
         text_len(1, &self.name)
             + text_len(2, &self.version)
-            + messages_len(3, &self.attributes)
+            + messages_len(3, self.attributes.as_slice(), indexes)
             + number_len(4, self.dropped_attributes_count)
     }
 
     #[tactic(auto, using(pb_wire::proofs::Begins::growing))]
-    fn put_rows(&self, out: &mut Blob) -> Result<(), NoMemory> {
+    fn put_rows<I: NewIndexes>(&self, indexes: &I, out: &mut Blob) -> Result<(), NoMemory> {
         put_text(out, 1, &self.name)?;
         put_text(out, 2, &self.version)?;
-        put_messages(out, 3, &self.attributes)?;
+        put_messages(out, 3, self.attributes.as_slice(), indexes)?;
         put_number(out, 4, self.dropped_attributes_count)?;
         Ok(())
     }

@@ -5,8 +5,8 @@ ghost use Rattle.prof_rec.specs.Views.{scope_profiles_view};
 
 use crate::{Profile, Scope};
 use pb_wire::{
-    Blob, Field, List, NoMemory, ReadFault, Text, Wire, add_message, message_len, messages_len,
-    put_message, put_messages, put_text, take_message, take_text, text_len,
+    Blob, Field, List, NewIndexes, NoMemory, ReadFault, Text, Wire, add_message, message_len,
+    messages_len, put_message, put_messages, put_text, take_message, take_text, text_len,
 };
 use std::alloc::Global;
 
@@ -45,16 +45,16 @@ impl Wire for ScopeProfiles {
         }
     }
 
-    fn rows_len(&self) -> u64 {
-        message_len(1, &self.scope)
-            + messages_len(2, &self.profiles)
+    fn rows_len<I: NewIndexes>(&self, indexes: &I) -> u64 {
+        message_len(1, &self.scope, indexes)
+            + messages_len(2, self.profiles.as_slice(), indexes)
             + text_len(3, &self.schema_url)
     }
 
     #[tactic(auto, using(pb_wire::proofs::Begins::growing))]
-    fn put_rows(&self, out: &mut Blob) -> Result<(), NoMemory> {
-        put_message(out, 1, &self.scope)?;
-        put_messages(out, 2, &self.profiles)?;
+    fn put_rows<I: NewIndexes>(&self, indexes: &I, out: &mut Blob) -> Result<(), NoMemory> {
+        put_message(out, 1, &self.scope, indexes)?;
+        put_messages(out, 2, self.profiles.as_slice(), indexes)?;
         put_text(out, 3, &self.schema_url)?;
         Ok(())
     }

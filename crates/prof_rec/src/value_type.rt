@@ -3,7 +3,10 @@ ghost use Rattle.std.specs.Prelude.{refl};
 ghost use Rattle.schema.specs.Messages.{value_type};
 ghost use Rattle.prof_rec.specs.Views.{value_type_view};
 
-use pb_wire::{Blob, Field, NoMemory, ReadFault, Wire, number_len, put_number, take_number};
+use pb_wire::{
+    Blob, Field, NewIndexes, NoMemory, ReadFault, TableKind, Wire, index_len, put_index,
+    take_number,
+};
 use std::alloc::Global;
 
 /// The type and the unit of values.
@@ -39,13 +42,14 @@ impl Wire for ValueType {
         }
     }
 
-    fn rows_len(&self) -> u64 {
-        number_len(1, self.type_strindex) + number_len(2, self.unit_strindex)
+    fn rows_len<I: NewIndexes>(&self, indexes: &I) -> u64 {
+        index_len(1, TableKind::String, &self.type_strindex, indexes)
+            + index_len(2, TableKind::String, &self.unit_strindex, indexes)
     }
 
-    fn put_rows(&self, out: &mut Blob) -> Result<(), NoMemory> {
-        put_number(out, 1, self.type_strindex)?;
-        put_number(out, 2, self.unit_strindex)?;
+    fn put_rows<I: NewIndexes>(&self, indexes: &I, out: &mut Blob) -> Result<(), NoMemory> {
+        put_index(out, 1, TableKind::String, &self.type_strindex, indexes)?;
+        put_index(out, 2, TableKind::String, &self.unit_strindex, indexes)?;
         Ok(())
     }
 }

@@ -36,11 +36,11 @@ impl Wire for Leaf {
         }
     }
 
-    fn rows_len(&self) -> u64 {
+    fn rows_len<I: NewIndexes>(&self, _indexes: &I) -> u64 {
         number_len(1, self.count) + text_len(2, &self.name)
     }
 
-    fn put_rows(&self, out: &mut Blob) -> Result<(), NoMemory> {
+    fn put_rows<I: NewIndexes>(&self, _indexes: &I, out: &mut Blob) -> Result<(), NoMemory> {
         put_number(out, 1, self.count)?;
         put_text(out, 2, &self.name)?;
         Ok(())
@@ -118,31 +118,31 @@ impl Wire for Tree {
         }
     }
 
-    fn rows_len(&self) -> u64 {
-        message_len(1, &self.leaf)
-            + messages_len(2, &self.leaves)
+    fn rows_len<I: NewIndexes>(&self, indexes: &I) -> u64 {
+        message_len(1, &self.leaf, indexes)
+            + messages_len(2, self.leaves.as_slice(), indexes)
             + fixed_len(3, self.time)
             + number_len(4, self.duration)
             + number_len(6, self.period)
             + bytes_len(7, &self.id)
-            + fixed_list_len(8, &self.times)
-            + bytes_list_len(10, &self.payloads)
-            + numbers_len(11, &self.indices)
-            + text_list_len(12, &self.names)
+            + fixed_list_len(8, self.times.as_slice())
+            + bytes_list_len(10, self.payloads.as_slice())
+            + numbers_len(11, self.indices.as_slice())
+            + text_list_len(12, self.names.as_slice())
     }
 
     #[tactic(auto, using(pb_wire::proofs::Begins::growing))]
-    fn put_rows(&self, out: &mut Blob) -> Result<(), NoMemory> {
-        put_message(out, 1, &self.leaf)?;
-        put_messages(out, 2, &self.leaves)?;
+    fn put_rows<I: NewIndexes>(&self, indexes: &I, out: &mut Blob) -> Result<(), NoMemory> {
+        put_message(out, 1, &self.leaf, indexes)?;
+        put_messages(out, 2, self.leaves.as_slice(), indexes)?;
         put_fixed(out, 3, self.time)?;
         put_number(out, 4, self.duration)?;
         put_number(out, 6, self.period)?;
         put_bytes(out, 7, &self.id)?;
-        put_fixed_list(out, 8, &self.times)?;
-        put_bytes_list(out, 10, &self.payloads)?;
-        put_numbers(out, 11, &self.indices)?;
-        put_text_list(out, 12, &self.names)?;
+        put_fixed_list(out, 8, self.times.as_slice())?;
+        put_bytes_list(out, 10, self.payloads.as_slice())?;
+        put_numbers(out, 11, self.indices.as_slice())?;
+        put_text_list(out, 12, self.names.as_slice())?;
         Ok(())
     }
 }

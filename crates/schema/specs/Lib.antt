@@ -5,6 +5,8 @@ pub mod Steps
 pub mod Run
 pub mod AnyValue
 pub mod Shape
+pub mod Tables
+pub mod Moved
 pub mod Messages
 pub mod AnyMember
 pub mod Parts
@@ -14,6 +16,8 @@ pub mod Texts
 pub mod AnySpell
 pub mod Spell
 pub mod Fits
+pub mod Typed
+pub mod ReadBack
 pub mod Spelling
 pub mod FirstFault
 pub mod AnyFaults

@@ -1,8 +1,8 @@
 -- The schema: the messages of the OpenTelemetry Profiles signal, a line a message. It is after
 -- opentelemetry-proto 1.9.0 (`common/v1`, `resource/v1`, `profiles/v1development` and its collector service), which is
 -- under development; this table alone decides the fields and their numbers. A field's name stands in the comment.
-use Rattle.std.specs.Prelude.{ℕ}
-use Rattle.schema.specs.Shape.{Shape, Number, Fixed, Bytes, Text, Any, Index, End, One, Many, U32, U64, I32, I64, Table, Mappings, Locations, Functions, Links, Strings, Attributes, Stacks}
+use Rattle.std.specs.Prelude.{ℕ, List}
+use Rattle.schema.specs.Shape.{Shape, Value, Number, Fixed, Bytes, Text, Any, Index, End, One, Many, U32, U64, I32, I64, Table, Mappings, Locations, Functions, Links, Strings, Attributes, Stacks}
 
 -- an index into the string table
 abbrev pub string : Shape
@@ -84,6 +84,16 @@ entry Stacks = stack
 -- 7 stack_table
 abbrev pub dictionary : Shape
 dictionary = Many 1 mapping (Many 2 location (Many 3 function (Many 4 link (Many 5 Text (Many 6 attribute (Many 7 stack End))))))
+
+-- the entries of each of its tables
+abbrev pub entries_in : Value dictionary → (T : Table) → List (Value (entry T))
+entries_in d Mappings = d.0
+entries_in d Locations = d.1.0
+entries_in d Functions = d.1.1.0
+entries_in d Links = d.1.1.1.0
+entries_in d Strings = d.1.1.1.1.0
+entries_in d Attributes = d.1.1.1.1.1.0
+entries_in d Stacks = d.1.1.1.1.1.1.0
 
 -- Envelope (ProfilesData, and the export request), of such records: 1 resource_profiles, 2 dictionary
 abbrev pub message : Shape → Shape

@@ -37,3 +37,7 @@ pub mod Back
 pub mod Growth
 pub mod GrowthOfLists
 pub mod ReadFits
+pub mod MovedValues
+pub mod MovedShort
+pub mod Mentions
+pub mod Typed

@@ -1,5 +1,5 @@
 -- A value that is read can be written and read again, where the bytes are not too many.
-use Rattle.std.proofs.Common.{◌≡◌, ℕ, ◌+◌, ◌*◌, ◌^◌, ◌<◌, ◌≤◌, List, length, Ok, refl, sym, ap, subst, ◌∙◌, arith, length-append, inr}
+use Rattle.std.proofs.Common.{◌≡◌, ℕ, ◌+◌, ◌*◌, ◌^◌, ◌<◌, ◌≤◌, List, [], ◌∷◌, length, Ok, refl, sym, ap, subst, ◌∙◌, arith, length-append, inr}
 use Rattle.std.proofs.lemmas.List.Folds.{flat_map-map}
 use Rattle.schema.specs.Shape.{Any, Bytes, End, Fixed, I32, Index, IsMessage, Many, Number, One, Shape, Text, Value, empty}
 use Rattle.schema.specs.Parts.{Part, joined}
@@ -12,7 +12,7 @@ use Rattle.schema_laws.proofs.Back.{reads_back}
 use Rattle.schema_laws.proofs.Results.{ok_is}
 use Rattle.schema_laws.proofs.Lists.{Octets}
 use Rattle.schema_laws.proofs.Lengths.{bytes_field_le, each_as, each_short}
-use Rattle.schema_laws.proofs.Growth.{InRange, size, message_keeps}
+use Rattle.schema_laws.proofs.Growth.{AlsoIn, InRange, size, message_keeps}
 use Rattle.schema_laws.proofs.GrowthOfLists.{ManyIn, spells_nothing, empty_in, keeps}
 use Rattle.schema.specs.AnyMerge.{any_levels}
 use Rattle.schema.specs.AnySpell.{AnyInRange, FitsAny, any_text}
@@ -126,3 +126,30 @@ read_again s m lawful base bytes v o room e other = reads_back s m lawful v (rea
 -- values that fit are told apart by their spellings
 pub spelled_apart : (s : Shape) → IsMessage s → Lawful s → (v w : Value s) → Fits s v → Fits s w → spell s v ≡ spell s w → v ≡ w
 spelled_apart s m lawful v w f g e = ok_is v w (sym (reads_back s m lawful v f 0) ∙ ap (merge s (empty s) 0) e ∙ reads_back s m lawful w g 0)
+
+-- ---- what fits is in its range
+
+-- elements of which more is known
+each_from : {X : Type 0} (P Q : X → Type 0) → ((x : X) → P x → Q x) → (xs : List X) → Each P xs → Each Q xs
+each_from P Q f [] h = tt
+each_from P Q f (x ∷ xs) h = (f x h.0, each_from P Q f xs h.1)
+
+-- a repeated row that isn't read has no elements, and AnyValues that can be written are in their range
+also_together : (k : Shape) (vs : List (Value k)) → FitsTogether k vs → AlsoIn k vs
+also_together (Any depth) vs h = each_from (FitsAny (any_levels depth)) (AnyInRange (any_levels depth)) (λ v f. f.0) vs h
+also_together k vs h = tt
+
+-- a value that can be written is in its range
+pub in_range : (s : Shape) (x : Value s) → Fits s x → InRange s x
+in_range (Number w) x h = h
+in_range (Index T k) x h = h
+in_range Fixed x h = h
+in_range Text x h = h.0
+in_range (Any depth) x h = h.0
+in_range (One n k rest) x h = (in_range k x.0 h.0, in_range rest x.1 h.2)
+in_range (Many n k rest) x h = (
+  each_from (λ y. Fits k y × (length (spell k y) < 2 ^ 64)) (InRange k) (λ y f. in_range k y f.0) x.0 h.0,
+  also_together k x.0 h.1,
+  in_range rest x.1 h.2,
+)
+in_range s x h = tt

@@ -13,3 +13,6 @@ pub mod reading;
 
 /// Laws of AnyValue, the value that holds values of its own kind.
 pub mod any;
+
+/// Laws of values with other indexes.
+pub mod moving;

@@ -5,6 +5,7 @@ ghost use Rattle.schema.specs.Parts.{Part, joined};
 ghost use Rattle.schema.specs.Merge.{merge, merge_all};
 ghost use Rattle.schema.specs.Shape.{IsMessage, Shape, Value, empty};
 ghost use Rattle.schema.specs.Spell.{spell, spell_onto, len_onto};
+ghost use Rattle.schema.specs.Typed.{IsShallow, IsTyped};
 
 /// Rows that are appended one after the other are the spelling, and the lengths of the rows add up to its length. That a
 /// program computes the length of a row right is a clause of that program.
@@ -41,6 +42,11 @@ pub fn reads_what_was_read()
     ensures { (s : Shape) → IsMessage s → Lawful s → (base : ℕ) → (bytes : List ℕ) → (v : Value s)
         → Each (λ b. b < 256) bytes → 16 * length bytes < 2 ^ 64 → merge s (empty s) base bytes ≡ Ok v
         → (other : ℕ) → merge s (empty s) other (spell s v) ≡ Ok v }
+{}
+
+/// A value of a program's types fits where its AnyValues are not too deep and its spelling is short.
+pub fn typed_values_fit()
+    ensures { (s : Shape) → IsMessage s → Lawful s → (v : Value s) → IsTyped s v → IsShallow s v → length (spell s v) < 2 ^ 64 → Fits s v }
 {}
 
 /// Two values that fit have one spelling only where they are the same.

@@ -46,14 +46,10 @@ fn canon_with<M: Seeds, L: Ledger>(
     let mut steps = Steps::<L>::begin(blank);
     let mut draft = Draft::begin(alloc, seeds)?;
     if let Err(fault) = draft.add_message(alloc, message, &mut steps) {
-        draft.discard();
         return Err(fault);
     }
     match draft.finish() {
         Ok(bytes) => Ok(bytes),
-        Err((draft, stop)) => {
-            draft.discard();
-            Err(stop.into())
-        }
+        Err((_, stop)) => Err(stop.into()),
     }
 }

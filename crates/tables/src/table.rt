@@ -1,5 +1,5 @@
 //! A table that is hashed.
-ghost use Rattle.std.specs.Prelude.{◌≡◌, [], IsOkAnd};
+ghost use Rattle.std.specs.Prelude.{◌≡◌, ◌∷◌, [], IfOk, IsOkAnd};
 
 use crate::{Interner, Key, Mark, Steps};
 use indexmap::IndexSet;
@@ -38,6 +38,21 @@ impl<K: Key, S: BuildHasher> Table<K, S> {
         Ok(Table {
             set: IndexSet::with_hasher(alloc, hasher),
         })
+    }
+}
+
+impl<K: Key + Drop, S: BuildHasher + Drop> Table<K, S> {
+    /// A table of one key. It counts no step.
+    ///
+    /// # Errors
+    ///
+    /// Out of memory. Hasher and key are dropped.
+    pub fn start(alloc: Global, hasher: S, key: K) -> Result<Table<K, S>, NoMemory>
+        ensures { IfOk result (λ t. t ≡ key ∷ []) }
+    {
+        let mut set = IndexSet::with_hasher(alloc, hasher);
+        set.insert_full(key)?;
+        Ok(Table { set })
     }
 }
 

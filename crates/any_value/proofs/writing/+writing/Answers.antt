@@ -1,9 +1,12 @@
-use Rattle.std.proofs.Common.{◌++◌, ℕ, List, length, map, sym, ap, ◌∙◌, arith}
+use Rattle.std.proofs.Common.{subst, ◌++◌, ℕ, List, length, map, sym, ap, ◌∙◌, arith}
 use Rattle.std.specs.List.{flat_map}
 use Rattle.std.proofs.lemmas.List.{take_all}
 use Rattle.pb_wire.proofs.Rows.{next_within}
-use Rattle.any_value.specs.Views.{any_view, pair_view}
+use Rattle.schema.specs.Each.{Each}
+use Rattle.schema.specs.Typed.{IsTypedAny}
+use Rattle.any_value.specs.Views.{IsPairTyped, any_view, pair_view}
 use Rattle.any_value.proofs.Elements.{item_falls, item_text, items_text_is, keyed_falls, keyed_text, pairs_text_is}
+use Rattle.any_value.proofs.Typed.{items_typed, pairs_typed}
 use Rattle.any_value.proofs.writing.+writing.Goals as goal
 
 pub push_each_item-push_item-requires : goal.push_each_item-push_item-requires
@@ -27,3 +30,13 @@ pub push_each_pair-returns-clause-ok : goal.push_each_pair-returns-clause-ok
 push_each_pair-returns-clause-ok t c =
     c.loop-pair.invariant.0
     ∙ ap (λ (text : List ℕ). c.args.out.now ++ text) (ap (flat_map keyed_text) (take_all c.loop-pair.pair-index c.deref-pair-items.result.now (omega arith)) ∙ sym (pairs_text_is c.deref-pair-items.result.now _ (ap (map pair_view) c.deref-pair-items.ensures.value ∙ c.pairs.view_is)))
+
+pub push_each_item-returns-clause-typed : goal.push_each_item-returns-clause-typed
+push_each_item-returns-clause-typed t c =
+    items_typed c.deref-item-items.result.now _ (ap (map any_view) c.deref-item-items.ensures.value ∙ c.items.view_is)
+    (subst (Each (λ x. IsTypedAny (any_view x))) (take_all c.loop-item.item-index c.deref-item-items.result.now (omega arith)) c.loop-item.invariant.2)
+
+pub push_each_pair-returns-clause-typed : goal.push_each_pair-returns-clause-typed
+push_each_pair-returns-clause-typed t c =
+    pairs_typed c.deref-pair-items.result.now _ (ap (map pair_view) c.deref-pair-items.ensures.value ∙ c.pairs.view_is)
+    (subst (Each IsPairTyped) (take_all c.loop-pair.pair-index c.deref-pair-items.result.now (omega arith)) c.loop-pair.invariant.2)

@@ -1,44 +1,46 @@
-use Rattle.std.proofs.Common.{◌≡◌, length, map, ap, ◌∙◌, arith}
+use Rattle.std.proofs.Common.{◌≡◌, length, ap, ◌∙◌, arith}
 use Rattle.std.specs.List.{flat_map}
-use Rattle.schema.specs.Texts.{long_field, items_text}
+use Rattle.schema.specs.Moved.{moved}
+use Rattle.schema.specs.Texts.{long_field}
 use Rattle.schema.specs.Spell.{spell}
 use Rattle.std.proofs.lemmas.List.{take_all}
-use Rattle.pb_wire.proofs.Rows.{items_of, item_within, long_len_at, next_length, next_within}
+use Rattle.pb_wire.proofs.Rows.{items_moved, long_len_at, moved_within, next_length, next_within}
 use Rattle.schema_laws.proofs.Onto.{onto_len}
 use Rattle.pb_wire.proofs.lengths.messages_len.Goals as goal
 
 -- the length of the element's field is within that of the row
 pub rows_len-requires : goal.rows_len-requires
 rows_len-requires g c =
-    omega (arith, item_within g.T.Wire.shape g.T.Wire.view c.args.number c.as_slice-item-items.result.now c.args.items.now c.loop-item.item-index c.item-item.result c.as_slice-item-items.ensures (omega arith) c.item-item.is)
+    omega (arith, moved_within g.T.Wire.shape (moved (g.I.NewIndexes.to c.args.indexes.now) g.T.Wire.shape) g.T.Wire.view c.args.number c.args.items.now c.loop-item.item-index c.item-item.result (omega arith) c.item-item.is)
 
 pub long_len-len-requires-clause-room : goal.long_len-len-requires-clause-room
 long_len-len-requires-clause-room g c =
-    omega (arith, item_within g.T.Wire.shape g.T.Wire.view c.args.number c.as_slice-item-items.result.now c.args.items.now c.loop-item.item-index c.item-item.result c.as_slice-item-items.ensures (omega arith) c.item-item.is)
+    omega (arith, moved_within g.T.Wire.shape (moved (g.I.NewIndexes.to c.args.indexes.now) g.T.Wire.shape) g.T.Wire.view c.args.number c.args.items.now c.loop-item.item-index c.item-item.result (omega arith) c.item-item.is)
 
 pub overflow_add-len : goal.overflow_add-len
 overflow_add-len g c =
     let shape = g.T.Wire.shape in
     let view = g.T.Wire.view in
-    let text = λ (x : _). long_field c.args.number (spell shape (view x)) in
-    let items = c.as_slice-item-items.result.now in
-    let v = view c.item-item.result in
+    let move = moved (g.I.NewIndexes.to c.args.indexes.now) shape in
+    let text = λ (x : _). long_field c.args.number (spell shape (move (view x))) in
+    let items = c.args.items.now in
+    let v = move (view c.item-item.result) in
     let len : c.rows_len.result ≡ length (spell shape v) = c.rows_len.ensures ∙ omega (arith, onto_len shape 0 v) in
     omega (
       arith,
       next_within text items c.loop-item.item-index c.item-item.result (omega arith) c.item-item.is,
       long_len_at c.args.number c.rows_len.result (spell shape v) len,
-      ap length (items_of c.args.number (spell shape) view items),
-      ap (λ t. length (items_text c.args.number (map (spell shape) (map view t)))) c.as_slice-item-items.ensures,
+      ap length (items_moved c.args.number (spell shape) move view items),
     )
 
 pub loop-item-preserved : goal.loop-item-preserved
 loop-item-preserved g c =
     let shape = g.T.Wire.shape in
     let view = g.T.Wire.view in
-    let text = λ (x : _). long_field c.args.number (spell shape (view x)) in
-    let items = c.as_slice-item-items.result.now in
-    let v = view c.item-item.result in
+    let move = moved (g.I.NewIndexes.to c.args.indexes.now) shape in
+    let text = λ (x : _). long_field c.args.number (spell shape (move (view x))) in
+    let items = c.args.items.now in
+    let v = move (view c.item-item.result) in
     let len : c.rows_len.result ≡ length (spell shape v) = c.rows_len.ensures ∙ omega (arith, onto_len shape 0 v) in
     omega (arith, next_length text items c.loop-item.item-index c.item-item.result (omega arith) c.item-item.is, long_len_at c.args.number c.rows_len.result (spell shape v) len)
 
@@ -46,12 +48,7 @@ pub returns : goal.returns
 returns g c =
     let shape = g.T.Wire.shape in
     let view = g.T.Wire.view in
-    let text = λ (x : _). long_field c.args.number (spell shape (view x)) in
-    let items = c.as_slice-item-items.result.now in
-    omega (
-      arith,
-      c.loop-item.invariant,
-      ap (λ t. length (flat_map text t)) (take_all c.loop-item.item-index items (omega arith)),
-      ap length (items_of c.args.number (spell shape) view items),
-      ap (λ t. length (items_text c.args.number (map (spell shape) (map view t)))) c.as_slice-item-items.ensures,
-    )
+    let move = moved (g.I.NewIndexes.to c.args.indexes.now) shape in
+    let text = λ (x : _). long_field c.args.number (spell shape (move (view x))) in
+    let items = c.args.items.now in
+    omega (arith, c.loop-item.invariant, ap (λ t. length (flat_map text t)) (take_all c.loop-item.item-index items (omega arith)), ap length (items_moved c.args.number (spell shape) move view items))

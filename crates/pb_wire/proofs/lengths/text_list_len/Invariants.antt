@@ -4,4 +4,4 @@ use Rattle.pb_wire.proofs.lengths.text_list_len.Given as goal
 
 -- the length of the elements so far
 abbrev pub invariant-loop-item : goal.invariant-loop-item
-invariant-loop-item l = l.len ≡ length (items_text l.number (take l.item-index l.item-items))
+invariant-loop-item l = l.len ≡ length (items_text l.number (take l.item-index l.items))

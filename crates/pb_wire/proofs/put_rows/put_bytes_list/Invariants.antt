@@ -5,4 +5,4 @@ use Rattle.pb_wire.proofs.put_rows.put_bytes_list.Given as goal
 
 -- the elements so far stand behind what was there
 abbrev pub invariant-loop-item : goal.invariant-loop-item
-invariant-loop-item l = (l.out ≡ l.initial.out ++ items_text l.number (take l.item-index l.item-items)) × Begins l.initial.out l.out
+invariant-loop-item l = (l.out ≡ l.initial.out ++ items_text l.number (take l.item-index l.items)) × Begins l.initial.out l.out

@@ -1,8 +1,10 @@
-use Rattle.std.proofs.Common.{◌≡◌, ◌++◌, take}
+use Rattle.std.proofs.Common.{◌≡◌, ◌++◌, take, true}
+use Rattle.std.specs.Str.{is_utf8}
+use Rattle.schema.specs.Each.{Each}
 use Rattle.schema.specs.Texts.{items_text}
 use Rattle.pb_wire.specs.Answers.{Begins}
 use Rattle.pb_wire.proofs.put_rows.put_text_list.Given as goal
 
--- the elements so far stand behind what was there
+-- the elements so far stand behind what was there, and are UTF-8
 abbrev pub invariant-loop-item : goal.invariant-loop-item
-invariant-loop-item l = (l.out ≡ l.initial.out ++ items_text l.number (take l.item-index l.item-items)) × Begins l.initial.out l.out
+invariant-loop-item l = (l.out ≡ l.initial.out ++ items_text l.number (take l.item-index l.items)) × Begins l.initial.out l.out × Each (λ text. is_utf8 text ≡ true) (take l.item-index l.items)

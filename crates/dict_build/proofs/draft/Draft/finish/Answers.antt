@@ -4,12 +4,14 @@ use Rattle.dict_build.proofs.Drafts.{whole_accepted}
 use Rattle.dict_build.proofs.Filled.{whole_is}
 use Rattle.dict_build.proofs.draft.Draft.finish.Goals as goal
 
+pub whole_bytes-requires : goal.whole_bytes-requires
+whole_bytes-requires g c = c.self.invariant.1.draft.seven
+
 pub returns-in-Ok-clause-ok : goal.returns-in-Ok-clause-ok
 returns-in-Ok-clause-ok g c =
-    rw (← c.self.view_is) (λ ms s. c.in-Ok.ensures.ok ∙ whole_is (record { keys = c.self.inside.renumbering.tables; records = c.self.inside.records }) ms s.draft)
+    rw (← c.self.view_is) (λ ms s. c.in-Ok.ensures.ok ∙ whole_is (record { keys = c.self.inside.tables; records = c.self.inside.records }) ms s.draft)
 
 pub returns-in-Ok-clause-accepted : goal.returns-in-Ok-clause-accepted
 returns-in-Ok-clause-accepted g c =
     rw (← c.self.view_is)
-    (λ ms s. subst (λ b. IsAcceptedAs b ms) (sym c.in-Ok.ensures.ok)
-    (whole_accepted (record { keys = c.self.inside.renumbering.tables; records = c.self.inside.records }) ms s))
+    (λ ms s. subst (λ b. IsAcceptedAs b ms) (sym c.in-Ok.ensures.ok) (whole_accepted (record { keys = c.self.inside.tables; records = c.self.inside.records }) ms s))

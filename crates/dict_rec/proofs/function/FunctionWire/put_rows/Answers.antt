@@ -2,5 +2,8 @@ use Rattle.std.proofs.Common.{arith}
 use Rattle.pb_wire.proofs.Begins.{growing}
 use Rattle.dict_rec.proofs.function.FunctionWire.put_rows.Goals as goal
 
-pub returns-in_err-put_number-4-clause-err : goal.returns-in_err-put_number-4-clause-err
-returns-in_err-put_number-4-clause-err c = grind (arith, growing)
+pub returns-in_err-put_index-3-clause-err : goal.returns-in_err-put_index-3-clause-err
+returns-in_err-put_index-3-clause-err g c = grind (arith, growing)
+
+pub returns-in_err-put_number-clause-err : goal.returns-in_err-put_number-clause-err
+returns-in_err-put_number-clause-err g c = grind (arith, growing)

@@ -1,5 +1,0 @@
--- The ledger of the test's counter.
-use Rattle.call_tests.proofs.key_tables.a_searched_table_answers_first_places.Given as goal
-
-abbrev pub ghosts-try_a_few : goal.ghosts-try_a_few
-ghosts-try_a_few g a = record { name = a.blank.name; parts = a.blank.parts }

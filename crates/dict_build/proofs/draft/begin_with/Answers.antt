@@ -1,9 +1,0 @@
-use Rattle.std.proofs.Common.{[]}
-use Rattle.dict_build.proofs.Drafts.{begun_records}
-use Rattle.dict_build.proofs.draft.begin_with.Goals as goal
-
-pub invariant_of-result : goal.invariant_of-result
-invariant_of-result g c = ([], begun_records c.in_ok-tables.tables c.begin.result c.in_ok-tables.ensures c.begin.ensures)
-
-pub returns : goal.returns
-returns g c = begun_records c.in_ok-tables.tables c.begin.result c.in_ok-tables.ensures c.begin.ensures

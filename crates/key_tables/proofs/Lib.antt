@@ -1,0 +1,4 @@
+pub mod Fronts
+pub mod Tables
+pub mod Spelled
+pub mod Cut

@@ -1,0 +1,5 @@
+use Rattle.meaning.proofs.Known.{memo_gives}
+use Rattle.meaning.proofs.moving.memo_gives_indexes.Goals as goal
+
+pub returns : goal.returns
+returns c = memo_gives

@@ -1,0 +1,3 @@
+pub mod Onto
+pub mod Heads
+pub mod Reading

@@ -1,0 +1,9 @@
+pub mod Keys
+pub mod Placed
+pub mod Parts
+pub mod Entered
+pub mod Walks
+pub mod Begun
+pub mod Moves
+pub mod Noted
+pub mod Written

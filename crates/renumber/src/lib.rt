@@ -1,0 +1,14 @@
+//! Renumbering: the indexes of a message are met, then its records are measured and written with the new ones.
+#![tactic(auto)]
+
+mod entries;
+pub mod laws;
+mod meets;
+mod met;
+mod records;
+mod rows;
+mod walk;
+
+pub use meets::{Entry, Meets};
+pub use met::Met;
+pub use walk::Walk;
