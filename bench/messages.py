@@ -58,7 +58,7 @@ def distinct_text(draw, number):
 
 
 def with_duplicates(draw, entries, share):
-    """These entries, of which about this share stands twice."""
+    """These entries, of which about this share is duplicated."""
     return [entry for entry in entries for _ in range(2 if draw.random() < share else 1)]
 
 

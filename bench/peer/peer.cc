@@ -1,5 +1,5 @@
 // Reads a message into objects with Protocol Buffers' own library and writes it out again: `peer heap|arena IN OUT`.
-// With `heap` each object is allocated by itself, with `arena` all of them stand in one arena.
+// With `heap` each object is allocated by itself, with `arena` all of them are in one arena.
 #include <google/protobuf/arena.h>
 
 #include <fstream>

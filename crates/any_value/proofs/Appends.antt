@@ -1,4 +1,4 @@
--- Texts that are put behind one another.
+-- Texts that follow one another.
 use Rattle.std.proofs.Common.{◌≡◌, ℕ, ◌+◌, ◌*◌, List, [], ◌++◌, length, sym, ◌∙◌, length-append, append_assoc}
 use Rattle.std.proofs.lemmas.List.{append-nil}
 use Rattle.schema.specs.AnySpell.{pair_text}
@@ -13,7 +13,7 @@ put_none out = sym (append-nil out)
 pub pair_text_len : (k b : List ℕ) → length (pair_text k b) ≡ length (bytes_field 1 k) + length (bytes_field 2 b)
 pair_text_len k b = length-append (bytes_field 1 k) (bytes_field 2 b)
 
--- a key and its value behind a tag and their length
+-- a key and its value after a tag and their length
 pub pair_onto : (out : List ℕ) (n len : ℕ) (k b : List ℕ) → len ≡ length (pair_text k b)
     → ((((out ++ varint (n * 8 + 2)) ++ varint len) ++ bytes_field 1 k) ++ bytes_field 2 b) ≡ out ++ long_field n (pair_text k b)
 pair_onto out n len k b e =

@@ -3,7 +3,7 @@ use Rattle.std.proofs.Common.{◌≡◌, ℕ, zero, suc, ◌-◌, ◌<◌, List,
 use Rattle.schema.specs.AnyMerge.{merge_any, take_member}
 use Rattle.schema.specs.AnyValue.{AnyValue}
 use Rattle.schema.specs.Run.{run}
-use Rattle.schema.specs.Steps.{trace}
+use Rattle.schema.specs.Decoding.{trace}
 
 -- where a level is left, the fields are taken, with one less for the values inside
 pub level_is : (left at end : ℕ) (b : List ℕ) (v : AnyValue) → 0 < left

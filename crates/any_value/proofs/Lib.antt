@@ -4,5 +4,5 @@ pub mod Parts
 pub mod Elements
 pub mod Appends
 pub mod Counts
-pub mod Fed
-pub mod Typed
+pub mod Hashing
+pub mod Types

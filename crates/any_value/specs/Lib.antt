@@ -4,4 +4,4 @@ pub mod Views
 pub mod Falls
 pub mod MemberViews
 pub mod Equal
-pub mod Hashed
+pub mod Hashing

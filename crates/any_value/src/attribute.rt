@@ -40,7 +40,7 @@ impl Wire for KeyValue {
         text_len(1, &self.key) + value_row_len(2, &self.value)
     }
 
-    #[tactic(auto, using(pb_wire::proofs::Begins::growing))]
+    #[tactic(auto, using(pb_wire::proofs::Prefixes::growing))]
     fn put_rows<I: NewIndexes>(&self, _indexes: &I, out: &mut Blob) -> Result<(), NoMemory> {
         put_text(out, 1, &self.key)?;
         put_value(out, 2, &self.value)?;

@@ -2,7 +2,7 @@
 ghost use Rattle.std.specs.Prelude.{◌≡◌, ◌++◌, fold};
 ghost use Rattle.std.specs.Hash as fed;
 ghost use Rattle.schema.specs.AnyValue.{values_of, pairs_of};
-ghost use Rattle.any_value.specs.Hashed.{any_writes, bytes_writes, values_writes, pairs_writes, same_writes};
+ghost use Rattle.any_value.specs.Hashing.{any_writes, bytes_writes, values_writes, pairs_writes, same_writes};
 ghost use Rattle.any_value.specs.Views.{any_view};
 
 use crate::value::{KeyValue, KeyValues, Value, Values};

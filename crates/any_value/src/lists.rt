@@ -17,7 +17,7 @@ impl Values {
         }
     }
 
-    /// Puts a value at the end. After want of memory the list is as before and the value is dropped.
+    /// Puts a value at the end. When out of memory, the list is as before and the value is dropped.
     pub fn add(&mut self, element: Value) -> Result<(), NoMemory>
         ensures ok { OnOk result (self.new ≡ self.old ++ any_view element ∷ []) }
         ensures err { OnErr result (self.new ≡ self.old) }
@@ -45,7 +45,7 @@ impl KeyValues {
         }
     }
 
-    /// Puts a key and its value at the end. After want of memory the list is as before and the element is dropped.
+    /// Puts a key and its value at the end. When out of memory, the list is as before and the element is dropped.
     pub fn add(&mut self, element: KeyValue) -> Result<(), NoMemory>
         ensures ok { OnOk result (self.new ≡ self.old ++ pair_view element ∷ []) }
         ensures err { OnErr result (self.new ≡ self.old) }

@@ -8,7 +8,7 @@ ghost use Rattle.schema.specs.Field.{bytes_of};
 ghost use Rattle.schema.specs.Merge.{take_one, take_field};
 ghost use Rattle.schema.specs.Run.{message, run};
 ghost use Rattle.schema.specs.Shape.{Any};
-ghost use Rattle.schema.specs.Steps.{trace};
+ghost use Rattle.schema.specs.Decoding.{trace};
 ghost use Rattle.pb_wire.specs.Answers.{Reads, Took};
 ghost use Rattle.pb_wire.specs.View.{field_view, payload_view};
 ghost use Rattle.any_value.specs.Views.{any_view, pair_view};
@@ -22,7 +22,7 @@ use pb_wire::{
 use std::alloc::Global;
 use std::mem;
 
-// Takes the payload of a value over the value so far. One for which no level is left is too deep, and is not looked into.
+// Takes the payload of a value over the value so far. One for which no level is left is too deep, and is not parsed.
 #[cycle(reading)]
 fn in_value(
     value: &mut Value,
@@ -133,7 +133,7 @@ fn pairs_of(value: &mut Value, alloc: Global) -> KeyValues
     }
 }
 
-// Takes the payload of a list of values: its elements come behind those of a value that is such a list.
+// Takes the payload of a list of values: its elements come after those of a value that is such a list.
 #[cycle(reading)]
 fn take_items(
     value: &mut Value,
@@ -152,7 +152,7 @@ fn take_items(
     Ok(())
 }
 
-// Takes the payload of a list of keys and values: its elements come behind those of a value that is such a list.
+// Takes the payload of a list of keys and values: its elements come after those of a value that is such a list.
 #[cycle(reading)]
 fn take_pairs(
     value: &mut Value,
@@ -360,7 +360,7 @@ pub fn take_value(
 }
 
 /// The value of the joined payloads of one AnyValue, which has this depth, or the first fault in written order. One that
-/// stands in no other has depth 1.
+/// is in no other has depth 1.
 pub fn decode_value(alloc: Global, pieces: &Pieces<'_>, depth: u32) -> Result<Value, ReadFault>
     requires first { 1 ≤ depth }
     requires last { depth ≤ 64 }

@@ -1,4 +1,4 @@
-//! Writing values. After want of memory a part may stand at the end of `out`, if nothing else is said.
+//! Writing values. When out of memory, a part may be at the end of `out`, if nothing else is said.
 ghost use Rattle.std.specs.Prelude.{◌≡◌, ◌*◌, ◌+◌, ◌<◌, ◌≤◌, ◌^◌, ◌++◌, length, OnOk, OnErr};
 ghost use Rattle.schema.specs.AnySpell.{any_text, pair_text, values_text, pairs_text};
 ghost use Rattle.schema.specs.AnyValue.{values_of, pairs_of};
@@ -6,7 +6,7 @@ ghost use Rattle.schema.specs.Field.{Eight};
 ghost use Rattle.schema.specs.ReadBack.{IsAnyReadBack};
 ghost use Rattle.schema.specs.Typed.{ArePairsTyped, AreTyped, IsTypedAny};
 ghost use Rattle.schema.specs.Texts.{varint, field_text, long_field, bytes_field};
-ghost use Rattle.pb_wire.specs.Answers.{Begins};
+ghost use Rattle.schema.specs.Prefix.{IsPrefix};
 ghost use Rattle.pb_wire.specs.View.{payload_view};
 ghost use Rattle.any_value.specs.Views.{IsPairTyped, any_view};
 
@@ -14,12 +14,12 @@ use crate::lengths::{items_len, pair_len, pairs_len, value_len};
 use crate::value::{KeyValue, KeyValues, Value, Values};
 use pb_wire::{Blob, NoMemory, Number, Payload, put_field, put_text, put_varint};
 
-// Puts a tag and the length of what comes behind it.
-#[tactic(auto, using(pb_wire::proofs::Begins::growing))]
+// Puts a tag and the length of what comes after it.
+#[tactic(auto, using(pb_wire::proofs::Prefixes::growing))]
 fn push_head(out: &mut Blob, number: u32, len: u64) -> Result<(), NoMemory>
     requires { number < 2 ^ 29 }
     ensures ok { OnOk result (out.new ≡ (out.old ++ varint (number * 8 + 2)) ++ varint len) }
-    ensures err { OnErr result (Begins out.old out.new) }
+    ensures err { OnErr result (IsPrefix out.old out.new) }
 {
     put_varint(out, number as u64 * 8 + 2)?;
     put_varint(out, len)?;
@@ -27,22 +27,22 @@ fn push_head(out: &mut Blob, number: u32, len: u64) -> Result<(), NoMemory>
 }
 
 // Puts a field.
-#[tactic(auto, using(pb_wire::proofs::Begins::growing))]
+#[tactic(auto, using(pb_wire::proofs::Prefixes::growing))]
 fn push_field(out: &mut Blob, number: u32, payload: &Payload<'_>) -> Result<(), NoMemory>
     requires above { 1 ≤ number }
     requires below { number ≤ 536870911 }
     ensures ok { OnOk result (out.new ≡ out.old ++ field_text number (payload_view payload.now)) }
-    ensures err { OnErr result (Begins out.old out.new) }
+    ensures err { OnErr result (IsPrefix out.old out.new) }
 {
     put_field(out, number, payload)?;
     Ok(())
 }
 
 // Puts a double, which has eight bytes.
-#[tactic(auto, using(pb_wire::proofs::Begins::growing))]
+#[tactic(auto, using(pb_wire::proofs::Prefixes::growing))]
 fn push_double(out: &mut Blob, bytes: [u8; 8]) -> Result<(), NoMemory>
     ensures ok { OnOk result (out.new ≡ out.old ++ field_text 4 (Eight bytes)) }
-    ensures err { OnErr result (Begins out.old out.new) }
+    ensures err { OnErr result (IsPrefix out.old out.new) }
     ensures typed { OnOk result (length bytes ≡ 8) }
 {
     push_field(out, 4, &Payload::Fixed64(bytes))?;
@@ -51,11 +51,11 @@ fn push_double(out: &mut Blob, bytes: [u8; 8]) -> Result<(), NoMemory>
 
 // Puts the canonical payload of a value.
 #[cycle(writing)]
-#[tactic(auto, using(pb_wire::proofs::Begins::growing, crate::proofs::Appends::put_none))]
+#[tactic(auto, using(pb_wire::proofs::Prefixes::growing, crate::proofs::Appends::put_none))]
 fn push_value(out: &mut Blob, value: &Value) -> Result<(), NoMemory>
     requires { length (any_text (any_view value.now)) < 2 ^ 63 }
     ensures ok { OnOk result (out.new ≡ out.old ++ any_text (any_view value.now)) }
-    ensures err { OnErr result (Begins out.old out.new) }
+    ensures err { OnErr result (IsPrefix out.old out.new) }
     ensures typed { OnOk result (IsTypedAny (any_view value.now)) }
 {
     match value {
@@ -70,13 +70,13 @@ fn push_value(out: &mut Blob, value: &Value) -> Result<(), NoMemory>
     }
 }
 
-// Puts a list of values behind its tag and length.
+// Puts a list of values after its tag and length.
 #[cycle(writing)]
-#[tactic(auto, using(pb_wire::proofs::Begins::growing, schema_laws::proofs::Onto::long_len, schema_laws::proofs::Onto::long_onto))]
+#[tactic(auto, using(pb_wire::proofs::Prefixes::growing, schema_laws::proofs::Onto::long_len, schema_laws::proofs::Onto::long_onto))]
 fn push_items(out: &mut Blob, items: &Values) -> Result<(), NoMemory>
     requires { length (long_field 5 (values_text (values_of items.now))) < 2 ^ 63 }
     ensures ok { OnOk result (out.new ≡ out.old ++ long_field 5 (values_text (values_of items.now))) }
-    ensures err { OnErr result (Begins out.old out.new) }
+    ensures err { OnErr result (IsPrefix out.old out.new) }
     ensures typed { OnOk result (AreTyped (values_of items.now)) }
 {
     push_head(out, 5, items_len(items))?;
@@ -84,13 +84,13 @@ fn push_items(out: &mut Blob, items: &Values) -> Result<(), NoMemory>
     Ok(())
 }
 
-// Puts a list of keys and values behind its tag and length.
+// Puts a list of keys and values after its tag and length.
 #[cycle(writing)]
-#[tactic(auto, using(pb_wire::proofs::Begins::growing, schema_laws::proofs::Onto::long_len, schema_laws::proofs::Onto::long_onto))]
+#[tactic(auto, using(pb_wire::proofs::Prefixes::growing, schema_laws::proofs::Onto::long_len, schema_laws::proofs::Onto::long_onto))]
 fn push_pairs(out: &mut Blob, pairs: &KeyValues) -> Result<(), NoMemory>
     requires { length (long_field 6 (pairs_text (pairs_of pairs.now))) < 2 ^ 63 }
     ensures ok { OnOk result (out.new ≡ out.old ++ long_field 6 (pairs_text (pairs_of pairs.now))) }
-    ensures err { OnErr result (Begins out.old out.new) }
+    ensures err { OnErr result (IsPrefix out.old out.new) }
     ensures typed { OnOk result (ArePairsTyped (pairs_of pairs.now)) }
 {
     push_head(out, 6, pairs_len(pairs))?;
@@ -98,13 +98,13 @@ fn push_pairs(out: &mut Blob, pairs: &KeyValues) -> Result<(), NoMemory>
     Ok(())
 }
 
-// Puts each element behind its own tag and length, also an empty one.
+// Puts each element after its own tag and length, also an empty one.
 #[cycle(writing)]
-#[tactic(auto, using(pb_wire::proofs::Typed::each_next, pb_wire::proofs::Begins::growing))]
+#[tactic(auto, using(pb_wire::proofs::Types::each_next, pb_wire::proofs::Prefixes::growing))]
 fn push_each_item(out: &mut Blob, items: &Values) -> Result<(), NoMemory>
     requires { length (values_text (values_of items.now)) < 2 ^ 63 }
     ensures ok { OnOk result (out.new ≡ out.old ++ values_text (values_of items.now)) }
-    ensures err { OnErr result (Begins out.old out.new) }
+    ensures err { OnErr result (IsPrefix out.old out.new) }
     ensures typed { OnOk result (AreTyped (values_of items.now)) }
 {
     for item in &items.inner {
@@ -115,13 +115,13 @@ fn push_each_item(out: &mut Blob, items: &Values) -> Result<(), NoMemory>
     Ok(())
 }
 
-// Puts an element of a list of values behind its tag and length.
+// Puts an element of a list of values after its tag and length.
 #[cycle(writing)]
-#[tactic(auto, using(pb_wire::proofs::Begins::growing, schema_laws::proofs::Onto::long_len, schema_laws::proofs::Onto::long_onto))]
+#[tactic(auto, using(pb_wire::proofs::Prefixes::growing, schema_laws::proofs::Onto::long_len, schema_laws::proofs::Onto::long_onto))]
 fn push_item(out: &mut Blob, item: &Value) -> Result<(), NoMemory>
     requires { length (long_field 1 (any_text (any_view item.now))) < 2 ^ 63 }
     ensures ok { OnOk result (out.new ≡ out.old ++ long_field 1 (any_text (any_view item.now))) }
-    ensures err { OnErr result (Begins out.old out.new) }
+    ensures err { OnErr result (IsPrefix out.old out.new) }
     ensures typed { OnOk result (IsTypedAny (any_view item.now)) }
 {
     push_head(out, 1, value_len(item))?;
@@ -129,13 +129,13 @@ fn push_item(out: &mut Blob, item: &Value) -> Result<(), NoMemory>
     Ok(())
 }
 
-// Puts each element behind its own tag and length, also an empty one.
+// Puts each element after its own tag and length, also an empty one.
 #[cycle(writing)]
-#[tactic(auto, using(pb_wire::proofs::Typed::each_next, pb_wire::proofs::Begins::growing))]
+#[tactic(auto, using(pb_wire::proofs::Types::each_next, pb_wire::proofs::Prefixes::growing))]
 fn push_each_pair(out: &mut Blob, pairs: &KeyValues) -> Result<(), NoMemory>
     requires { length (pairs_text (pairs_of pairs.now)) < 2 ^ 63 }
     ensures ok { OnOk result (out.new ≡ out.old ++ pairs_text (pairs_of pairs.now)) }
-    ensures err { OnErr result (Begins out.old out.new) }
+    ensures err { OnErr result (IsPrefix out.old out.new) }
     ensures typed { OnOk result (ArePairsTyped (pairs_of pairs.now)) }
 {
     for pair in &pairs.inner {
@@ -146,13 +146,13 @@ fn push_each_pair(out: &mut Blob, pairs: &KeyValues) -> Result<(), NoMemory>
     Ok(())
 }
 
-// Puts a key and its value, each of which is left out where it is empty, behind a tag and a length.
+// Puts a key and its value, each of which is left out where it is empty, after a tag and a length.
 #[cycle(writing)]
-#[tactic(auto, using(pb_wire::proofs::Begins::growing, crate::proofs::Appends::pair_text_len, crate::proofs::Appends::pair_onto, schema_laws::proofs::Onto::long_len, schema_laws::proofs::Onto::long_onto))]
+#[tactic(auto, using(pb_wire::proofs::Prefixes::growing, crate::proofs::Appends::pair_text_len, crate::proofs::Appends::pair_onto, schema_laws::proofs::Onto::long_len, schema_laws::proofs::Onto::long_onto))]
 fn push_pair(out: &mut Blob, pair: &KeyValue) -> Result<(), NoMemory>
     requires { length (long_field 1 (pair_text pair.now.key (any_text (any_view pair.now.value)))) < 2 ^ 63 }
     ensures ok { OnOk result (out.new ≡ out.old ++ long_field 1 (pair_text pair.now.key (any_text (any_view pair.now.value)))) }
-    ensures err { OnErr result (Begins out.old out.new) }
+    ensures err { OnErr result (IsPrefix out.old out.new) }
     ensures typed { OnOk result (IsPairTyped pair.now) }
 {
     push_head(out, 1, pair_len(pair))?;
@@ -163,12 +163,12 @@ fn push_pair(out: &mut Blob, pair: &KeyValue) -> Result<(), NoMemory>
 
 /// Puts the row of a value, unless its payload is empty.
 #[cycle(writing)]
-#[tactic(auto, using(crate::proofs::Typed::none_typed, pb_wire::proofs::Begins::growing, schema_laws::proofs::Lengths::bytes_field_le, pb_wire::proofs::Rows::left_out, pb_wire::proofs::Rows::bytes_some, schema_laws::proofs::Onto::long_onto))]
+#[tactic(auto, using(crate::proofs::Types::none_typed, pb_wire::proofs::Prefixes::growing, schema_laws::proofs::Lengths::bytes_field_le, pb_wire::proofs::Rows::left_out, pb_wire::proofs::Rows::bytes_some, schema_laws::proofs::Onto::long_onto))]
 pub fn put_value(out: &mut Blob, number: u32, value: &Value) -> Result<(), NoMemory>
     requires below { number < 2 ^ 29 }
     requires room { length (bytes_field number (any_text (any_view value.now))) < 2 ^ 63 }
     ensures ok { OnOk result (out.new ≡ out.old ++ bytes_field number (any_text (any_view value.now))) }
-    ensures err { OnErr result (Begins out.old out.new) }
+    ensures err { OnErr result (IsPrefix out.old out.new) }
     ensures typed { OnOk result (IsTypedAny (any_view value.now)) }
 {
     let len = value_len(value);

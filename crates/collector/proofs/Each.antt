@@ -1,11 +1,10 @@
 -- Files taken one by one, up to the first stop.
-use Rattle.std.proofs.Common.{◌≡◌, ◌≤◌, ℕ, List, [], ◌∷◌, ◌++◌, ◌+◌, ◌<◌, length, take, drop, take-append-drop, refl, sym, ap, ◌∙◌, get_or, Option, Some, None, Result, Ok, Err, IsOk, IfSome, subst, arith}
+use Rattle.std.proofs.Common.{◌≡◌, ℕ, List, [], ◌∷◌, ◌++◌, ◌+◌, ◌<◌, length, take, drop, take-append-drop, refl, sym, ap, ◌∙◌, get_or, Option, Some, None, Result, Ok, Err, IsOk, IfSome, subst}
 use Rattle.std.proofs.lemmas.List.{drop_more, take_more}
 use Rattle.collector.specs.declared.stop.Stop.{Stop}
 use Rattle.collector.specs.declared.stop.Stop.TheVariants.{Refused, Read, Write, NoMemory}
-use Rattle.outside.specs.Causes.{FailedAt}
 use Rattle.outside.specs.FileMap.{FileMap}
-use Rattle.collector.specs.Causes.{FileCause, ReadCause}
+use Rattle.collector.specs.Causes.{IsNextOf, ReadCause}
 use Rattle.collector.specs.Messages.{after, each, message_at}
 
 abbrev pub Names : Type 0
@@ -72,33 +71,28 @@ each_stopped f names i name vs stop lt is so_far one =
     let ends : each f (name ∷ drop (i + 1) names) ≡ Err stop = rw one refl in
     subst (λ (l : Names). each f l ≡ Err stop) (midst names i name lt is) (each-stops f (take i names) (name ∷ drop (i + 1) names) vs stop so_far ends)
 
+-- the file of one name comes after none
+pub is_first : (told : Option FileMap) (name : List ℕ) → IsNextOf (name ∷ []) told name
+is_first told name = record { before = []; later = []; is = refl; accepted = none_before told }
+
+-- of one name, the next one is that name
+only_name : (name read : List ℕ) (before later : Names) → name ∷ [] ≡ before ++ read ∷ later → read ≡ name
+only_name name read [] later e = cc
+only_name name read (x ∷ []) later e = absurd cc
+only_name name read (x ∷ y ∷ rest) later e = absurd cc
+
 -- a stop at the reading of the name at i is one at the reading of them all, where those before it are accepted
-pub caused_at : (told : Option FileMap) (failed : List ℕ → Type 0) (names : Names) (i : ℕ) (name : List ℕ) (n n' n'' : ℕ) (stop : Stop) → i < length names → name ≡ get_or names i name
-    → n ≤ n' → IfSome told (λ m. IsOk (each (message_at m) (take i names))) → FileCause name (FailedAt failed n' n'') stop → ReadCause names told (FailedAt failed n n'') stop
-caused_at told failed names i name n n' n'' (Refused refusal) lt is later so_far h = h
-caused_at told failed names i name n n' n'' (Read read) lt is later so_far (e, (at, rose)) = (
+pub caused_at : (told now : Option FileMap) (failed failed' : List ℕ → Type 0) (names : Names) (i : ℕ) (name : List ℕ) (stop : Stop) → i < length names → name ≡ get_or names i name
+    → IfSome told (λ m. IsOk (each (message_at m) (take i names))) → ((n : List ℕ) → failed n → failed' n) → ReadCause (name ∷ []) now failed stop → ReadCause names told failed' stop
+caused_at told now failed failed' names i name (Refused refusal) lt is so_far also h = h
+caused_at told now failed failed' names i name (Read read) lt is so_far also (next, at) = (
   record {
     before = take i names;
     later = drop (i + 1) names;
-    is = sym (midst names i name lt is) ∙ ap (λ (x : List ℕ). take i names ++ (x ∷ drop (i + 1) names)) (sym e);
+    is = sym (midst names i name lt is) ∙ ap (λ (x : List ℕ). take i names ++ (x ∷ drop (i + 1) names)) (sym (only_name name read next.before next.later next.is));
     accepted = so_far;
   },
-  (subst failed (sym e) at, omega arith),
+  also read at,
 )
-caused_at told failed names i name n n' n'' (Write written) lt is later so_far h = h
-caused_at told failed names i name n n' n'' NoMemory lt is later so_far h = tt
-
--- a stop at the reading of one file is one at the reading of that file alone
-pub one_caused : (told : Option FileMap) (failed : List ℕ → Type 0) (name : List ℕ) (stop : Stop) → FileCause name failed stop → ReadCause (name ∷ []) told failed stop
-one_caused told failed name (Refused refusal) h = h
-one_caused told failed name (Read read) (e, at) = (
-  record {
-    before = [];
-    later = [];
-    is = ap (λ (x : List ℕ). x ∷ []) (sym e);
-    accepted = none_before told;
-  },
-  subst failed (sym e) at,
-)
-one_caused told failed name (Write written) h = h
-one_caused told failed name NoMemory h = tt
+caused_at told now failed failed' names i name (Write written) lt is so_far also h = h
+caused_at told now failed failed' names i name NoMemory lt is so_far also h = tt

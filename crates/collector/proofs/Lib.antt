@@ -1,5 +1,6 @@
 pub mod Writing
 pub mod Rebuilding
 pub mod Each
-pub mod CheckedLines
-pub mod Named
+pub mod RunSteps
+pub mod CheckLines
+pub mod FaultNames

@@ -3,7 +3,7 @@ use Rattle.std.proofs.Common.{◌≡◌, ◌≤◌, ℕ, zero, suc, List, [], �
 use Rattle.std.proofs.Math.Seq.{take-suc}
 use Rattle.std.proofs.lemmas.List.{drop_more}
 use Rattle.outside.specs.Causes.{Rose}
-use Rattle.outside.specs.FileMap.{FileMap, written, SameBut}
+use Rattle.outside.specs.FileMap.{FileMap, with_file, SameBut}
 use Rattle.collector.specs.declared.output.Output.{Output}
 use Rattle.collector.specs.declared.stop.Stop.{Stop}
 use Rattle.collector.specs.declared.stop.Stop.TheVariants.{Refused, Read, Write, NoMemory}
@@ -16,7 +16,7 @@ Files = List (List ℕ × List ℕ)
 -- files in two parts are put one part after the other
 put_files-append : (xs ys : Files) (o : Option FileMap) → put_files (xs ++ ys) o ≡ put_files ys (put_files xs o)
 put_files-append [] ys o = refl
-put_files-append (f ∷ fs) ys o = put_files-append fs ys (written f.0 f.1 o)
+put_files-append (f ∷ fs) ys o = put_files-append fs ys (with_file f.0 f.1 o)
 
 -- the first files with one more
 one_more : (fs : Files) (i : ℕ) (f : List ℕ × List ℕ) → i < length fs → f ≡ get_or fs i f → take (i + 1) fs ≡ take i fs ++ f ∷ []
@@ -24,10 +24,10 @@ one_more fs i f lt is = rw add-one (take-suc fs i f lt ∙ ap (λ (x : List ℕ 
 
 -- one file more is written
 pub put_files_more : (fs : Files) (i : ℕ) (f : List ℕ × List ℕ) (o now new : Option FileMap) → i < length fs → f ≡ get_or fs i f
-    → now ≡ put_files (take i fs) o → new ≡ written f.0 f.1 now → new ≡ put_files (take (i + 1) fs) o
+    → now ≡ put_files (take i fs) o → new ≡ with_file f.0 f.1 now → new ≡ put_files (take (i + 1) fs) o
 put_files_more fs i f o now new lt is so_far step =
     step
-    ∙ ap (written f.0 f.1) so_far
+    ∙ ap (with_file f.0 f.1) so_far
     ∙ sym (put_files-append (take i fs) (f ∷ []) o)
     ∙ ap (λ (l : Files). put_files l o) (sym (one_more fs i f lt is))
 

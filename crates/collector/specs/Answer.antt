@@ -1,4 +1,4 @@
--- The answer of the tool.
+-- The answer of the tool, and what its output keeps.
 use Rattle.std.specs.Prelude.{ℕ, List, [], Result, Ok, Err}
 use Rattle.outside.specs.FileMap.{FileMap}
 use Rattle.commands.specs.declared.words.ToolPlan.{ToolPlan}
@@ -8,20 +8,25 @@ use Rattle.collector.specs.declared.output.Output.{Output}
 use Rattle.collector.specs.declared.stop.Stop.{Stop}
 use Rattle.commands.specs.Plan.{planned}
 use Rattle.collector.specs.Lines.{status_of, line_of, stop_of_words}
-use Rattle.collector.specs.CanonAnswer.{canon_answer}
-use Rattle.collector.specs.CheckAnswer.{check_answer}
+use Rattle.collector.specs.CanonAnswer.{canon_answer, CanonKeeps}
+use Rattle.collector.specs.CheckAnswer.{check_answer, CheckKeeps}
 
 -- what a plan comes to; one line a command
 abbrev pub performed : ToolPlan → FileMap → Result Output Stop
 performed (Check files) m = check_answer m files
 performed (Canon file target) m = canon_answer m file target
 
--- what a plan, or the refusal of the words, comes to
+-- what the output of a plan keeps; one line a command
+abbrev pub KeepsMeaning : ToolPlan → FileMap → Output → Type 0
+KeepsMeaning (Check files) m output = CheckKeeps m files output
+KeepsMeaning (Canon file target) m output = CanonKeeps m file target output
+
+-- what a plan, or the refusal of the command line, comes to
 abbrev pub with_plan : Result ToolPlan WordRefusal → FileMap → Result Output Stop
 with_plan (Ok plan) m = performed plan m
 with_plan (Err refusal) m = Err (stop_of_words refusal)
 
--- what the words come to over these files
+-- what the command line comes to over these files
 abbrev pub outcome : List (List ℕ) → FileMap → Result Output Stop
 outcome words m = with_plan (planned words) m
 
@@ -37,6 +42,6 @@ abbrev pub answer_of : Result Output Stop → Answer
 answer_of (Ok output) = record { status = 0; files = output.files; out = output.lines; err = [] }
 answer_of (Err stop) = record { status = status_of stop; files = []; out = []; err = line_of stop }
 
--- the answer to these words over these files
+-- the answer to this command line over these files
 abbrev pub answer : List (List ℕ) → FileMap → Answer
 answer words m = answer_of (outcome words m)

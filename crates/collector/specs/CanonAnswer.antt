@@ -1,4 +1,4 @@
--- The answer of `canon IN OUT`.
+-- The answer of `canon IN OUT`, and what its output keeps.
 use Rattle.std.specs.Prelude.{ℕ, List, Result, Ok, Err}
 use Rattle.outside.specs.FileMap.{FileMap}
 use Rattle.otlp_msg.specs.Message.{Message, message_of}
@@ -11,6 +11,7 @@ use Rattle.collector.specs.declared.stop.Stop.{Stop}
 use Rattle.collector.specs.declared.stop.Stop.TheVariants.{Refused, NoMemory}
 use Rattle.collector.specs.Messages.{after, accepted, bytes_at}
 use Rattle.collector.specs.Outputs.{one_file}
+use Rattle.collector.specs.Rebuilt.{IsRebuiltAt}
 
 -- bytes that were built, or the stop at their size
 abbrev pub built : Result (List ℕ) BuildFault → Result (List ℕ) Stop
@@ -29,3 +30,7 @@ canon_in file target bytes = after (accepted file (message_of bytes)) (canon_fil
 -- the same from the file
 abbrev pub canon_answer : FileMap → List ℕ → List ℕ → Result Output Stop
 canon_answer m file target = after (bytes_at m file) (canon_in file target)
+
+-- the file that is written is accepted, with the meaning of the message that was read
+abbrev pub CanonKeeps : FileMap → List ℕ → List ℕ → Output → Type 0
+CanonKeeps m file target output = IsRebuiltAt m file target output

@@ -1,5 +1,5 @@
--- The answer of `check IN..`.
-use Rattle.std.specs.Prelude.{ℕ, List, Result, Ok}
+-- The answer of `check IN..`, and what its output keeps.
+use Rattle.std.specs.Prelude.{◌≡◌, ℕ, List, [], Result, Ok}
 use Rattle.std.specs.List.{concat}
 use Rattle.outside.specs.FileMap.{FileMap}
 use Rattle.otlp_msg.specs.Message.{Message, message_of, profiles_of, samples_of}
@@ -28,3 +28,7 @@ lines_at m files = after (each (line_at m) files) (λ lines. Ok (concat lines))
 -- the lines are printed, and no file is written
 abbrev pub check_answer : FileMap → List (List ℕ) → Result Output Stop
 check_answer m files = after (lines_at m files) (λ lines. Ok (lines_alone lines))
+
+-- no file is written
+abbrev pub CheckKeeps : FileMap → List (List ℕ) → Output → Type 0
+CheckKeeps m files output = output.files ≡ []

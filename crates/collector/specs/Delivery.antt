@@ -1,27 +1,29 @@
 -- What is written of an output, wholly or in part.
 use Rattle.std.specs.Prelude.{◌≡◌, ◌≢◌, ◌⊎◌, ℕ, List, [], ◌∷◌, codes, map, take, drop, Option, Some, Result, Ok, Err}
 use Rattle.outside.specs.Causes.{Rose}
-use Rattle.outside.specs.FileMap.{FileMap, written, SameBut}
-use Rattle.outside.specs.Told.{appended, TookPrefix}
+use Rattle.outside.specs.FileMap.{FileMap, with_file, SameBut}
+use Rattle.outside.specs.Streams.{appended, TookPrefix}
+use Rattle.outside.specs.declared.files.Files.{Ghosts as OfFiles}
+use Rattle.outside.specs.declared.sink.Sink.{Ghosts as OfSink}
 use Rattle.collector.specs.declared.output.Output.{Output}
 use Rattle.collector.specs.declared.stop.Stop.{Stop}
 use Rattle.collector.specs.declared.stop.Stop.TheVariants.{Refused, Read, Write, NoMemory}
 
--- what the files and `out` tell, and how often a write of each has failed
+-- what is told of the files and of `out`, and how often a write of each has failed
 pub record Seen : Type 0 where
   pub told : Option FileMap
   pub write_faults : ℕ
   pub taken : Option (List ℕ)
   pub out_faults : ℕ
 
--- the same, in one line
-abbrev pub seen : Option FileMap → ℕ → Option (List ℕ) → ℕ → Seen
-seen told write_faults taken out_faults = record { told = told; write_faults = write_faults; taken = taken; out_faults = out_faults }
+-- that of these files and this `out`
+abbrev pub seen : {S P : Type 0} → OfFiles S → OfSink P → S → P → Seen
+seen F O files out = record { told = F.told files; write_faults = F.write_faults files; taken = O.taken out; out_faults = O.faults out }
 
 -- the files put in order, where a map is told
 abbrev pub put_files : List (List ℕ × List ℕ) → Option FileMap → Option FileMap
 put_files [] told = told
-put_files (f ∷ fs) told = put_files fs (written f.0 f.1 told)
+put_files (f ∷ fs) told = put_files fs (with_file f.0 f.1 told)
 
 -- the names of files
 abbrev pub names_of : List (List ℕ × List ℕ) → List (List ℕ)
@@ -88,7 +90,7 @@ abbrev pub PartDelivered : Result Output Stop → Seen → Seen → Type 0
 PartDelivered (Ok output) before now = Partly output before now
 PartDelivered (Err stop) before now = Untouched before now
 
--- but for a failed write or want of memory, nothing was written
+-- but for a failed write or out of memory, nothing was written
 abbrev pub Unchanged : Stop → Seen → Seen → Type 0
 Unchanged (Refused refusal) before now = Untouched before now
 Unchanged (Read name) before now = Untouched before now
@@ -123,7 +125,13 @@ OutputLeft output before now (Read name) = ⊥
 OutputLeft output before now (Write name) = WriteFailed output before now name
 OutputLeft output before now NoMemory = Partly output before now
 
--- the status is of the answer: no fault and no want of memory
+-- no failure of a read, of a write or of `out` was counted
+pub record NoneCounted {S P : Type 0} (F : OfFiles S) (O : OfSink P) (old new : S) (out out' : P) : Type 0 where
+  pub reads : ¬ (Rose (F.read_faults old) (F.read_faults new))
+  pub writes : ¬ (Rose (F.write_faults old) (F.write_faults new))
+  pub output : ¬ (Rose (O.faults out) (O.faults out'))
+
+-- the status is of the answer: no fault, and not out of memory
 pub record IsAnswered (status : ℕ) : Type 0 where
   pub no_read_fault : status ≢ 6
   pub memory : status ≢ 7

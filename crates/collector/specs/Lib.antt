@@ -1,10 +1,11 @@
 pub mod Lines
 pub mod Outputs
 pub mod Messages
+pub mod Rebuilt
 pub mod CanonAnswer
 pub mod CheckAnswer
 pub mod Answer
-pub mod Rebuilt
 pub mod Causes
 pub mod Delivery
-pub mod Named
+pub mod RunSteps
+pub mod FaultNames

@@ -51,11 +51,11 @@ read_text name = codes "read failed: " ++ (name ++ end_of_line)
 abbrev pub write_text : List ℕ → List ℕ
 write_text name = codes "write failed: " ++ (name ++ end_of_line)
 
--- memory was wanting
+-- out of memory
 abbrev pub no_memory_text : List ℕ
 no_memory_text = codes "no memory" ++ end_of_line
 
--- the stop where the words are refused
+-- the stop where the command line is refused
 abbrev pub stop_of_words : WordRefusal → Stop
 stop_of_words (word.Fault place reason) = Refused (Words place reason)
 stop_of_words word.NoMemory = NoMemory
@@ -86,7 +86,7 @@ line_of (Read name) = read_text name
 line_of (Write name) = write_text name
 line_of NoMemory = no_memory_text
 
--- the line of refused words
+-- the line of a refused command line
 abbrev pub words_line : Result ToolPlan WordRefusal → List ℕ
 words_line (Ok plan) = []
 words_line (Err refusal) = line_of (stop_of_words refusal)

@@ -1,12 +1,10 @@
--- What is kept by the outputs of commands: the files that are written are accepted, with the meanings that were asked for.
+-- What outputs of commands keep: the files that are written are accepted, with the meanings that were asked for.
 use Rattle.std.specs.Prelude.{◌≡◌, ℕ, List, [], ◌∷◌, Ok}
 use Rattle.outside.specs.FileMap.{FileMap}
 use Rattle.otlp_msg.specs.Message.{Message, message_of}
 use Rattle.split_merge.specs.Canonical.{meaning, IsAcceptedAs, IsOnlyOf}
 use Rattle.collector.specs.Messages.{bytes_at}
 use Rattle.collector.specs.declared.output.Output.{Output}
-use Rattle.commands.specs.declared.words.ToolPlan.{ToolPlan}
-use Rattle.commands.specs.declared.words.ToolPlan.TheVariants.{Check, Canon}
 
 -- one file is written; it is accepted with the meaning of this message, and of no other one that can be written
 pub record IsRebuilt (message : Message) (target : List ℕ) (output : Output) : Type 0 where
@@ -26,8 +24,3 @@ pub record IsRebuiltAt (m : FileMap) (file target : List ℕ) (output : Output) 
   pub body : List ℕ
   pub held : bytes_at m file ≡ Ok body
   pub rebuilt : IsRebuiltFrom body target output
-
--- what the output of a plan keeps; one line a command
-abbrev pub KeepsMeaning : ToolPlan → FileMap → Output → Type 0
-KeepsMeaning (Check files) m output = output.files ≡ []
-KeepsMeaning (Canon file target) m output = IsRebuiltAt m file target output

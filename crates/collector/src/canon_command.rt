@@ -1,16 +1,16 @@
 //! The command `canon`.
-ghost use Rattle.std.specs.Prelude.{◌≡◌, ◌≤◌, [], ◌∷◌, Ok, IfOk, IfErr, IfSome};
-ghost use Rattle.outside.specs.Causes.{FailedAt};
+ghost use Rattle.std.specs.Prelude.{◌≡◌, [], ◌∷◌, IfOk};
 ghost use Rattle.otlp_msg.specs.Checked.{value_of};
-ghost use Rattle.collector.specs.CanonAnswer.{canon_answer, canon_in, canon_file};
-ghost use Rattle.collector.specs.Causes.{IsStop, ReadCause, IsOfInput, IsNoFault};
+ghost use Rattle.collector.specs.CanonAnswer.{canon_in, canon_file};
 ghost use Rattle.collector.specs.Delivery.{names_of};
 ghost use Rattle.collector.specs.Outputs.{one_file};
-ghost use Rattle.collector.specs.Rebuilt.{IsRebuilt, IsRebuiltAt, IsRebuiltFrom};
+ghost use Rattle.collector.specs.Rebuilt.{IsRebuilt, IsRebuiltFrom};
+ghost use Rattle.collector.specs.RunSteps.{IsComputed, IsPerformed};
 
 use crate::lines::wrote_line;
 use crate::reading::{checked_message, read_bytes};
 use crate::{Output, Stop, ToolRefusal, Writes};
+use commands::ToolPlan;
 use dict_build::BuildFault;
 use otlp_msg::Checked;
 use outside::{Files, Seeds};
@@ -26,15 +26,7 @@ pub fn perform_canon<F: Files, M: Seeds>(
     files: &mut F,
     seeds: &mut M,
 ) -> Result<Output, Stop>
-    ensures ok { IfOk result (λ output. IfSome (F.told files.old) (λ m. canon_answer m file.now target.now ≡ Ok output)) }
-    ensures stopped { IfErr result (λ stop. IfSome (F.told files.old) (λ m. IsStop (canon_answer m file.now target.now) stop)) }
-    ensures rebuilt { IfOk result (λ output. IfSome (F.told files.old) (λ m. IsRebuiltAt m file.now target.now output)) }
-    ensures targets { IfOk result (λ output. names_of output.files ≡ target.now ∷ []) }
-    ensures same { F.told files.new ≡ F.told files.old }
-    ensures cause { IfErr result (ReadCause (file.now ∷ []) (F.told files.old) (FailedAt (F.read_failed files.new) (F.read_faults files.old) (F.read_faults files.new))) }
-    ensures later { F.read_faults files.old ≤ F.read_faults files.new }
-    ensures writes { F.write_faults files.new ≡ F.write_faults files.old }
-    ensures sound { F.sound files.old → F.sound files.new × IfErr result IsNoFault }
+    ensures { IsPerformed F.Files files.old files.new (ToolPlan.Canon file.now target.now) result }
 {
     match read_bytes(alloc, file, files) {
         Ok(body) => canon_in(alloc, file, body.as_slice(), target, seeds),
@@ -50,11 +42,9 @@ fn canon_in<M: Seeds>(
     target: &Text,
     seeds: &mut M,
 ) -> Result<Output, Stop>
-    ensures ok { IfOk result (λ output. canon_in file.now target.now body.now ≡ Ok output) }
-    ensures stopped { IfErr result (IsStop (canon_in file.now target.now body.now)) }
+    ensures computed { IsComputed (canon_in file.now target.now body.now) result }
     ensures rebuilt { IfOk result (IsRebuiltFrom body.now target.now) }
     ensures targets { IfOk result (λ output. names_of output.files ≡ target.now ∷ []) }
-    ensures cause { IfErr result IsOfInput }
 {
     match checked_message(alloc, file, body) {
         Ok(message) => canon_file(alloc, target, &message, seeds),
@@ -69,11 +59,9 @@ fn canon_file<M: Seeds>(
     message: &Checked<'_>,
     seeds: &mut M,
 ) -> Result<Output, Stop>
-    ensures ok { IfOk result (λ output. canon_file target.now (value_of message.now) ≡ Ok output) }
-    ensures stopped { IfErr result (IsStop (canon_file target.now (value_of message.now))) }
+    ensures computed { IsComputed (canon_file target.now (value_of message.now)) result }
     ensures rebuilt { IfOk result (IsRebuilt (value_of message.now) target.now) }
     ensures targets { IfOk result (λ output. names_of output.files ≡ target.now ∷ []) }
-    ensures cause { IfErr result IsOfInput }
 {
     match canon(alloc, message, seeds) {
         Ok(bytes) => Ok(output_of_one(alloc, target, bytes)?),

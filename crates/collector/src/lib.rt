@@ -1,4 +1,6 @@
-//! The tool: what each command comes to, the answer to the words, and the top call `run_tool`.
+//! The tool: what each command does, the answer to the command line, and the top call `run_tool`.
+//!
+//! docs/CONTRIBUTING.md says what a new command adds; no clause of another command changes.
 #![tactic(auto)]
 
 mod canon_command;

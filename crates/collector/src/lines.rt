@@ -63,7 +63,7 @@ pub fn write_line(alloc: Global, name: &str) -> Result<Text, NoMemory>
     Ok(Text::from_string(line))
 }
 
-/// On the standard error: memory was wanting.
+/// On the standard error: out of memory.
 pub fn no_memory_line(alloc: Global) -> Result<Text, NoMemory>
     ensures { IfOk result (λ line. line ≡ no_memory_text) }
 {

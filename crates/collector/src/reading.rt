@@ -1,10 +1,10 @@
 //! Reads a named file, and the message in it.
-ghost use Rattle.std.specs.Prelude.{◌≡◌, ◌≤◌, Ok, IfOk, IfErr, IfSome};
-ghost use Rattle.outside.specs.Causes.{FailedAt};
+ghost use Rattle.std.specs.Prelude.{◌≡◌, [], ◌∷◌, Ok, IfOk, IfErr};
 ghost use Rattle.otlp_msg.specs.Checked.{value_of};
 ghost use Rattle.otlp_msg.specs.Message.{message_of};
 ghost use Rattle.collector.specs.Messages.{bytes_in, bytes_at, accepted, stop_of_refusal};
-ghost use Rattle.collector.specs.Causes.{IsStop, FileCause, IsOfInput, IsNoFault};
+ghost use Rattle.collector.specs.Causes.{IsStop, IsOfInput};
+ghost use Rattle.collector.specs.RunSteps.{IsComputed, IsRead};
 
 use crate::{Stop, ToolRefusal};
 use otlp_msg::{Checked, MESSAGE_LIMIT, Refusal, read_message};
@@ -14,13 +14,7 @@ use std::alloc::Global;
 
 /// The bytes under a name, where there are no more than a message may have.
 pub fn read_bytes<F: Files>(alloc: Global, name: &Text, files: &mut F) -> Result<Blob, Stop>
-    ensures ok { IfOk result (λ body. IfSome (F.told files.old) (λ m. bytes_at m name.now ≡ Ok body)) }
-    ensures stopped { IfErr result (λ stop. IfSome (F.told files.old) (λ m. IsStop (bytes_at m name.now) stop)) }
-    ensures same { F.told files.new ≡ F.told files.old }
-    ensures cause { IfErr result (FileCause name.now (FailedAt (F.read_failed files.new) (F.read_faults files.old) (F.read_faults files.new))) }
-    ensures later { F.read_faults files.old ≤ F.read_faults files.new }
-    ensures writes { F.write_faults files.new ≡ F.write_faults files.old }
-    ensures sound { F.sound files.old → F.sound files.new × IfErr result IsNoFault }
+    ensures { IsRead F.Files files.old files.new (name.now ∷ []) (λ m. bytes_at m name.now) result }
 {
     match files.read(alloc, name.as_str(), MESSAGE_LIMIT) {
         Ok(got) => bytes_of_got(alloc, name, got),
@@ -32,9 +26,7 @@ pub fn read_bytes<F: Files>(alloc: Global, name: &Text, files: &mut F) -> Result
 }
 
 fn bytes_of_got(alloc: Global, name: &Text, got: Got) -> Result<Blob, Stop>
-    ensures ok { IfOk result (λ body. bytes_in name.now got ≡ Ok body) }
-    ensures stopped { IfErr result (IsStop (bytes_in name.now got)) }
-    ensures cause { IfErr result IsOfInput }
+    ensures { IsComputed (bytes_in name.now got) result }
 {
     match got {
         Got::Whole(body) => Ok(body),

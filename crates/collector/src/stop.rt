@@ -11,10 +11,10 @@ use thiserror::Error;
 /// What the answer refuses. `line` is what the tool prints; the display is for logs.
 #[derive(Debug, Drop, Error)]
 pub enum ToolRefusal {
-    /// The words ask for nothing.
+    /// The command line asks for nothing.
     #[error("word {place}: {reason:?}")]
     Words { place: u32, reason: WordReason },
-    /// A file is missing or no message; the text says why.
+    /// A file is missing, or it is no message; the text says why.
     #[error("{}: {}", .name.as_str(), .text.as_str())]
     File { name: Text, text: Text },
     /// The output would have this number of bytes, which is above its limit.

@@ -1,4 +1,4 @@
--- What the words ask for.
+-- What the command line asks for.
 use Rattle.std.specs.Prelude.{◌≡◌, ℕ, Bool, List, [], ◌∷◌, map, if◌then◌else◌, nat_eq, Result, Ok, Err, codes, string_bytes, String}
 use Rattle.std.specs.Cmp.Lexicographic.{pointwise}
 use Rattle.std.specs.declared.alloc.Global.{Global}
@@ -8,7 +8,7 @@ use Rattle.commands.specs.declared.words.WordReason.TheVariants.{NoCommand, Unkn
 use Rattle.commands.specs.declared.words.WordRefusal.{WordRefusal}
 use Rattle.commands.specs.declared.words.WordRefusal.TheVariants.{Fault, NoMemory}
 
--- the words as texts
+-- the command line as texts
 abbrev pub texts_of : List (String Global) → List (List ℕ)
 texts_of words = map string_bytes words
 
@@ -28,7 +28,7 @@ two_words make (a ∷ []) = Err (Fault 2 MissingWord)
 two_words make (a ∷ b ∷ []) = Ok (make a b)
 two_words make (a ∷ b ∷ c ∷ more) = Err (Fault 3 ExtraWord)
 
--- what the words ask for, or what is wrong with them; one line a command
+-- what the command line asks for, or what is wrong with it; one line a command
 abbrev pub planned : List (List ℕ) → Result ToolPlan WordRefusal
 planned [] = Err (Fault 0 NoCommand)
 planned (command ∷ rest) =
@@ -36,16 +36,17 @@ planned (command ∷ rest) =
     else if is_word command (codes "canon") then two_words Canon rest
     else Err (Fault 0 UnknownCommand)
 
--- the files that a plan reads, and those that it writes
+-- the files that a plan reads, in order; one line a command
 abbrev pub inputs : ToolPlan → List (List ℕ)
 inputs (Check files) = files
 inputs (Canon file target) = file ∷ []
 
-abbrev pub targets : ToolPlan → List (List ℕ)
-targets (Check files) = []
-targets (Canon file target) = target ∷ []
+-- these are the names of the files that a plan writes, in order; one line a command
+abbrev pub HasTargets : ToolPlan → List (List ℕ) → Type 0
+HasTargets (Check files) names = names ≡ []
+HasTargets (Canon file target) names = names ≡ target ∷ []
 
--- the refusal is the one that is wanted, or memory was wanting
+-- the refusal is the one that is wanted, or out of memory
 abbrev pub IsWordRefusal : Result ToolPlan WordRefusal → WordRefusal → Type 0
 IsWordRefusal want (Fault place reason) = want ≡ Err (Fault place reason)
 IsWordRefusal want NoMemory = Unit {0}

@@ -1,4 +1,4 @@
-//! The words of the command line, and what they ask for.
+//! The command line, and what it asks for.
 #![tactic(auto)]
 
 mod words;

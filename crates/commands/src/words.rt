@@ -1,4 +1,4 @@
-//! The words of the command line.
+//! The command line.
 ghost use Rattle.std.specs.Prelude.{◌≡◌, ◌++◌, ◌∷◌, [], Ok, IfOk, IfErr, OnOk};
 ghost use Rattle.commands.specs.Plan.{planned, some_words, two_words, texts_of, IsWordRefusal};
 
@@ -9,7 +9,7 @@ use thiserror::Error;
 /// Texts in order.
 pub type Texts = List<Text>;
 
-/// What the words ask for.
+/// What the command line asks for.
 #[derive(Drop)]
 pub enum ToolPlan {
     /// Says how much there is in the messages in `files`, of which there is at least one.
@@ -18,7 +18,7 @@ pub enum ToolPlan {
     Canon { file: Text, target: Text },
 }
 
-/// What is wrong with the words.
+/// What is wrong with the command line.
 #[derive(Clone, Copy, Debug, PartialEq, Eq)]
 pub enum WordReason {
     /// There are no words.
@@ -31,7 +31,7 @@ pub enum WordReason {
     ExtraWord,
 }
 
-/// Why the words ask for nothing.
+/// Why the command line asks for nothing.
 #[derive(Clone, Copy, Debug, PartialEq, Eq, Error)]
 pub enum WordRefusal {
     /// The place is that of the word, counted from 0; at `MissingWord` it is the number of words.
@@ -52,7 +52,7 @@ impl From<NoMemory> for WordRefusal {
     }
 }
 
-/// What the words ask for: a command, and the words that it takes.
+/// What the command line asks for: a command, and the words that it takes.
 pub fn plan(alloc: Global, words: &[String]) -> Result<ToolPlan, WordRefusal>
     ensures ok { IfOk result (λ plan. planned (texts_of words.now) ≡ Ok plan) }
     ensures refused { IfErr result (IsWordRefusal (planned (texts_of words.now))) }

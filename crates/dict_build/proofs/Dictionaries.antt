@@ -6,7 +6,7 @@ use Rattle.schema.specs.Tables.{field_of}
 use Rattle.schema.specs.Texts.{items_text}
 use Rattle.meaning.specs.Message.{table_text, dictionary_text}
 use Rattle.key_tables.specs.Keys.{Keys, at, keys_text}
-use Rattle.key_tables.proofs.Spelled.{text_by_table}
+use Rattle.key_tables.proofs.Spelling.{text_by_table}
 use Rattle.renumber.specs.Entries.{IsKey, new_entries}
 use Rattle.renumber.proofs.Keys.{key_texts}
 

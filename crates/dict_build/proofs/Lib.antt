@@ -1,7 +1,10 @@
-pub mod Answered
+pub mod Results
 pub mod Dictionaries
-pub mod Filled
-pub mod Added
-pub mod Accepted
+pub mod DraftContents
+pub mod Additions
+pub mod Acceptance
 pub mod Drafts
-pub mod Joined
+pub mod Joins
+pub mod Lengths
+pub mod Rows
+pub mod Marks

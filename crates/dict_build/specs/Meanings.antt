@@ -1,5 +1,5 @@
 -- Meanings of messages that can be written.
-use Rattle.std.specs.Prelude.{◌≡◌, ℕ, ◌≤◌, List, length, Ok}
+use Rattle.std.specs.Prelude.{◌≡◌, ℕ, ◌≤◌, List, ◌++◌, length, Ok}
 use Rattle.schema.specs.Each.{Each}
 use Rattle.schema.specs.Messages.{resource_profiles}
 use Rattle.meaning.specs.Meaning.{IsMeaning}
@@ -15,6 +15,10 @@ Meaning = List Tree
 -- the meaning of a message
 abbrev pub meaning : Message → Meaning
 meaning m = meaning_of resource_profiles m
+
+-- a meaning with that of a message at its end
+abbrev pub joined : Meaning → Message → Meaning
+joined ms m = ms ++ meaning m
 
 -- the number of canonical bytes of a meaning
 abbrev pub size_of : Meaning → ℕ

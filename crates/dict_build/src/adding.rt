@@ -1,98 +1,80 @@
 //! The records of a message, added to those of a draft.
-ghost use Rattle.std.specs.Prelude.{◌≡◌, ◌+◌, ◌<◌, ◌≤◌, ◌^◌, ◌++◌, List, length, map, IfErr, OnOk, OnErr};
-ghost use Rattle.schema.specs.Messages.{resource_profiles};
+ghost use Rattle.std.specs.Prelude.{◌≡◌, ◌+◌, ◌≤◌, ◌^◌, ◌++◌, map, IfErr, OnOk, OnErr};
+ghost use Rattle.schema.specs.Fits.{Fits};
+ghost use Rattle.schema.specs.Messages.{resource_profiles, envelope};
 ghost use Rattle.meaning.specs.Canonical.{records as records_of};
-ghost use Rattle.meaning.specs.Message.{meaning_of};
-ghost use Rattle.meaning.specs.Tree.{Tree};
 ghost use Rattle.otlp_msg.specs.Message.{message_limit};
-ghost use Rattle.dict_rec.specs.Views.{dictionary_view};
-ghost use Rattle.key_tables.specs.Keys.{Begins, Keys};
-ghost use Rattle.pb_wire.specs.Answers.{Begins as BeginsWith};
+ghost use Rattle.schema.specs.Prefix.{IsPrefix};
 ghost use Rattle.prof_rec.specs.Views.{resource_profiles_view};
 ghost use Rattle.renumber.specs.Entries.{IsPart, IsSource, entry_count, old_entries};
 ghost use Rattle.renumber.specs.Walk.{Moves, missed};
-ghost use Rattle.dict_build.specs.Adding.{AreRenumbered, IsRefused};
-ghost use Rattle.dict_build.specs.Contents.{IsDraft, whole_text};
-ghost use Rattle.dict_build.specs.Draft.{IsFaultOf};
-ghost use Rattle.dict_build.specs.Meanings.{size_of};
+ghost use Rattle.dict_build.specs.Adding.{AreRenumbered, AreShorter, IsRefused, IsTooLong, message_with, resources_moved, size_with};
+ghost use Rattle.dict_build.specs.Contents.{contents};
+ghost use Rattle.dict_build.specs.Draft.{IsFaultOfJoined, StandsForJoined, StandsForSome};
+ghost use Rattle.dict_build.specs.Marks.{GoesOn};
 
 use crate::contents::whole_len;
 use crate::fault::BuildFault;
+use crate::mark::{kept_or_cut_back, mark_of};
+use crate::measure::with_resources;
+use crate::put::put_resources;
 use dict_rec::Dictionary;
+use draft_records::Records;
 use key_tables::KeyTables;
 use otlp_msg::MESSAGE_LIMIT;
-use pb_wire::{Blob, messages_len, put_messages};
+use pb_wire::{NewIndexes, NoMemory};
 use prof_rec::ResourceProfiles;
-use renumber::{Met, Walk};
+use renumber::{Memo, Walk};
 use std::alloc::Global;
 use std::hash::BuildHasher;
 use std::sync::ledger::Ledger;
 use tables::Steps;
 
-// The number of the resource records' field in a message.
-const RECORDS: u32 = 1;
-
 /// Adds the records of a message with this dictionary, unless the whole would be longer than a message may be. After an error
 /// all is as before.
 pub(crate) fn add_within_limit<S: BuildHasher + Drop, L: Ledger>(
     tables: &mut KeyTables<S>,
-    records: &mut Blob,
+    records: &mut Records,
     alloc: Global,
     dictionary: &Dictionary,
     added: &[ResourceProfiles],
     steps: &mut Steps<L>,
 ) -> Result<(), BuildFault>
-    requires draft { (ms : List Tree) × IsDraft (record { keys = tables.old; records = records.old }) ms }
-    requires short { length records.old ≤ message_limit }
+    requires stands { StandsForSome (contents tables.old records.old) }
     requires source { IsSource dictionary.now }
     requires parts { IsPart (records_of resource_profiles) dictionary.now (map resource_profiles_view added.now, tt) }
-    ensures ok { OnOk result ((ms : List Tree) → IsDraft (record { keys = tables.old; records = records.old }) ms
-        → IsDraft (record { keys = tables.new; records = records.new }) (ms ++ meaning_of resource_profiles (map resource_profiles_view added.now, (dictionary_view dictionary.now, tt)))) }
-    ensures small { OnOk result ((ms : List Tree) → IsDraft (record { keys = tables.old; records = records.old }) ms
-        → size_of (ms ++ meaning_of resource_profiles (map resource_profiles_view added.now, (dictionary_view dictionary.now, tt))) ≤ message_limit) }
-    ensures fault { IfErr result (λ fault. (ms : List Tree) → IsDraft (record { keys = tables.old; records = records.old }) ms
-        → IsFaultOf (ms ++ meaning_of resource_profiles (map resource_profiles_view added.now, (dictionary_view dictionary.now, tt))) fault) }
-    ensures tables { OnErr result (tables.new ≡ tables.old) }
-    ensures records { OnErr result (records.new ≡ records.old) }
+    requires fits { Fits envelope (message_with added.now dictionary.now) }
+    ensures ok { OnOk result (StandsForJoined (contents tables.old records.old) (contents tables.new records.new) (message_with added.now dictionary.now)) }
+    ensures fault { IfErr result (IsFaultOfJoined (contents tables.old records.old) (message_with added.now dictionary.now)) }
+    ensures same { OnErr result (contents tables.new records.new ≡ contents tables.old records.old) }
+    ensures grown { GoesOn (contents tables.old records.old) (contents tables.new records.new) }
     ensures steps { steps.new ≤ steps.old + entry_count (old_entries dictionary.now) + 8 }
 {
-    let mark = tables.mark();
-    let len = records.len();
-    match add_records(tables, records, alloc, dictionary, added, steps) {
-        Ok(()) => Ok(()),
-        Err(fault) => {
-            tables.back_to(&mark);
-            records.truncate(len);
-            Err(fault)
-        }
-    }
+    let mark = mark_of(tables, records);
+    let done = add_records(tables, records, alloc, dictionary, added, steps);
+    kept_or_cut_back(tables, records, mark, done)
 }
 
 // The same. After an error what was there still stands in front.
 fn add_records<S: BuildHasher + Drop, L: Ledger>(
     tables: &mut KeyTables<S>,
-    records: &mut Blob,
+    records: &mut Records,
     alloc: Global,
     dictionary: &Dictionary,
     added: &[ResourceProfiles],
     steps: &mut Steps<L>,
 ) -> Result<(), BuildFault>
-    requires draft { (ms : List Tree) × IsDraft (record { keys = tables.old; records = records.old }) ms }
-    requires short { length records.old ≤ message_limit }
+    requires stands { StandsForSome (contents tables.old records.old) }
     requires source { IsSource dictionary.now }
     requires parts { IsPart (records_of resource_profiles) dictionary.now (map resource_profiles_view added.now, tt) }
-    ensures ok { OnOk result ((ms : List Tree) → IsDraft (record { keys = tables.old; records = records.old }) ms
-        → IsDraft (record { keys = tables.new; records = records.new }) (ms ++ meaning_of resource_profiles (map resource_profiles_view added.now, (dictionary_view dictionary.now, tt)))) }
-    ensures small { OnOk result ((ms : List Tree) → IsDraft (record { keys = tables.old; records = records.old }) ms
-        → size_of (ms ++ meaning_of resource_profiles (map resource_profiles_view added.now, (dictionary_view dictionary.now, tt))) ≤ message_limit) }
-    ensures fault { IfErr result (λ fault. (ms : List Tree) → IsDraft (record { keys = tables.old; records = records.old }) ms
-        → IsFaultOf (ms ++ meaning_of resource_profiles (map resource_profiles_view added.now, (dictionary_view dictionary.now, tt))) fault) }
-    ensures tables { (base : Keys) → Begins base tables.old → Begins base tables.new }
-    ensures records { BeginsWith records.old records.new }
+    requires fits { Fits envelope (message_with added.now dictionary.now) }
+    ensures ok { OnOk result (StandsForJoined (contents tables.old records.old) (contents tables.new records.new) (message_with added.now dictionary.now)) }
+    ensures fault { IfErr result (IsFaultOfJoined (contents tables.old records.old) (message_with added.now dictionary.now)) }
+    ensures grown { GoesOn (contents tables.old records.old) (contents tables.new records.new) }
     ensures steps { steps.new ≤ steps.old + entry_count (old_entries dictionary.now) + 8 }
 {
-    let met = Met::none(alloc, dictionary)?;
-    let mut walk = Walk::begin(dictionary, tables.take(alloc), met);
+    let memo = Memo::none(alloc, dictionary)?;
+    let mut walk = Walk::begin(dictionary, tables.take(alloc), memo);
     let done = put_records(&mut walk, records, alloc, added, steps);
     *tables = walk.into_tables();
     done
@@ -101,27 +83,61 @@ fn add_records<S: BuildHasher + Drop, L: Ledger>(
 // Makes the indexes of records known, measures the records with their new indexes, and puts them at the end.
 fn put_records<S: BuildHasher + Drop, L: Ledger>(
     walk: &mut Walk<'_, S>,
-    records: &mut Blob,
+    records: &mut Records,
     alloc: Global,
     added: &[ResourceProfiles],
     steps: &mut Steps<L>,
 ) -> Result<(), BuildFault>
-    requires parts { IsPart (records_of resource_profiles) walk.old.source (map resource_profiles_view added.now, tt) }
-    requires short { length records.old ≤ message_limit }
+    requires { IsPart (records_of resource_profiles) walk.old.source (map resource_profiles_view added.now, tt) }
     ensures moves { Moves resource_profiles (missed result) walk.old walk.new steps.old steps.new }
     ensures ok { OnOk result (AreRenumbered walk.old walk.new records.old records.new (map resource_profiles_view added.now)) }
-    ensures small { OnOk result (length (whole_text (record { keys = walk.new.keys; records = records.new })) ≤ message_limit) }
+    ensures small { OnOk result (size_with walk.new records.old (map resource_profiles_view added.now) ≤ message_limit) }
     ensures fault { IfErr result (IsRefused walk.old walk.new records.old (map resource_profiles_view added.now)) }
-    ensures records { BeginsWith records.old records.new }
+    ensures front { IsPrefix records.old records.new }
 {
     walk.each(alloc, added, steps)?;
+    match measured(walk, records, added) {
+        Ok(room) => {
+            put_in_room(records, room, added, &*walk)?;
+            Ok(())
+        }
+        Err(fault) => Err(fault),
+    }
+}
+
+// Takes memory for so many bytes at once, and puts records at the end.
+fn put_in_room<I: NewIndexes>(
+    records: &mut Records,
+    room: usize,
+    added: &[ResourceProfiles],
+    indexes: &I,
+) -> Result<(), NoMemory>
+    requires { AreShorter (2 ^ 62) (resources_moved (I.to indexes.now) (map resource_profiles_view added.now)) }
+    ensures ok { OnOk result (records.new ≡ records.old ++ resources_moved (I.to indexes.now) (map resource_profiles_view added.now)) }
+    ensures front { IsPrefix records.old records.new }
+{
+    records.reserve(room)?;
+    put_resources(records, added, indexes)?;
+    Ok(())
+}
+
+// Refuses records with which the whole is longer than a message may be. Gives the bytes that their text takes, for which room is
+// made; no contract depends on this number.
+fn measured<S: BuildHasher + Drop>(
+    walk: &Walk<'_, S>,
+    records: &Records,
+    added: &[ResourceProfiles],
+) -> Result<usize, BuildFault>
+    requires { IsPart (records_of resource_profiles) walk.now.source (map resource_profiles_view added.now, tt) }
+    ensures small { OnOk result (size_with walk.now records.now (map resource_profiles_view added.now) ≤ message_limit) }
+    ensures fault { IfErr result (IsTooLong walk.now records.now (map resource_profiles_view added.now)) }
+{
     let tables = walk.tables();
-    let more = messages_len(RECORDS, added, &*walk);
-    let size = whole_len(tables, records.len() as u64 + more);
+    let sums = with_resources(records.totals(), added, walk)?;
+    let total = sums.total();
+    let size = whole_len(tables, total);
     if size > MESSAGE_LIMIT {
         return Err(BuildFault::OutputLimit { size });
     }
-    records.reserve(more as usize)?;
-    put_messages(records, RECORDS, added, &*walk)?;
-    Ok(())
+    Ok((total - records.text_len()) as usize)
 }

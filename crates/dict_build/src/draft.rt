@@ -1,16 +1,18 @@
 //! A message under construction.
-ghost use Rattle.std.specs.Prelude.{◌≡◌, ◌+◌, ◌≤◌, ◌++◌, [], IfOk, IfErr, OnOk, OnErr};
-ghost use Rattle.schema.specs.Messages.{resource_profiles};
-ghost use Rattle.meaning.specs.Message.{meaning_text, tables_in};
+ghost use Rattle.std.specs.Prelude.{◌≡◌, ◌+◌, ◌≤◌, [], IfOk, IfErr, OnOk, OnErr};
+ghost use Rattle.meaning.specs.Message.{tables_in};
 ghost use Rattle.otlp_msg.specs.Checked.{value_of};
 ghost use Rattle.otlp_msg.specs.Message.{message_limit};
 ghost use Rattle.renumber.specs.Entries.{entry_count};
-ghost use Rattle.dict_build.specs.Draft.{IsFaultOf, StandsFor, StandsForSome};
-ghost use Rattle.dict_build.specs.Meanings.{Meaning, IsAcceptedAs, meaning, size_of};
+ghost use Rattle.dict_build.specs.Draft.{AreAcceptedFor, AreBytesOf, IsFaultOfJoined, StandsFor, StandsForJoined, StandsForSome};
+ghost use Rattle.dict_build.specs.Marks.{CanBeCutTo, GoesOn, IsMark, cut_to};
+ghost use Rattle.dict_build.specs.Meanings.{Meaning, size_of};
 
 use crate::adding::add_within_limit;
-use crate::contents::{whole_bytes, whole_len};
+use crate::contents::{copied_bytes, whole_bytes, whole_len};
 use crate::fault::BuildFault;
+use crate::mark::{DraftMark, cut_back, mark_of};
+use draft_records::Records;
 use key_tables::{KeyTables, begin_tables};
 use otlp_msg::Checked;
 use outside::Seeds;
@@ -20,23 +22,24 @@ use std::marker::Model;
 use std::sync::ledger::Ledger;
 use tables::Steps;
 
-/// A message under construction: its resource records, spelled with their new indexes, and the tables that these point
-/// into. It stands for the meaning of these records, and can be finished at any time.
+/// A message under construction: the parts of its resource records, spelled with their new indexes, and the tables that these
+/// point into. It stands for the meaning of these records, and can be finished at any time. It can go back to a mark, and a mark
+/// stays one while the draft goes on from it.
 #[derive(Drop)]
 pub struct Draft<M: Seeds> {
     tables: KeyTables<M::H>,
-    records: Blob,
+    records: Records,
 }
 
 impl<M: Seeds> Model for Draft<M> {
-    ghost use Rattle.dict_build.specs.Contents.{Contents};
+    ghost use Rattle.dict_build.specs.Contents.{Contents, contents};
     ghost use Rattle.dict_build.specs.Draft.{StandsForSome};
 
     ghost Value = { Contents };
 
-    ghost view = { λ d. record { keys = d.tables; records = d.records } };
+    ghost view = { λ d. contents d.tables d.records };
 
-    ghost invariant = { λ d. StandsForSome (record { keys = d.tables; records = d.records }) };
+    ghost invariant = { λ d. StandsForSome (contents d.tables d.records) };
 }
 
 impl<M: Seeds> Draft<M> {
@@ -51,7 +54,7 @@ impl<M: Seeds> Draft<M> {
         let tables = begin_tables(alloc, seeds)?;
         Ok(Draft {
             tables,
-            records: Blob::begin(alloc),
+            records: Records::begin(alloc),
         })
     }
 
@@ -62,11 +65,12 @@ impl<M: Seeds> Draft<M> {
         ensures most { result ≤ message_limit }
         ensures empty { StandsFor self.now [] → result ≡ 16 }
     {
-        whole_len(&self.tables, self.records.len() as u64)
+        whole_len(&self.tables, self.records.text_len())
     }
 
     /// Adds the resource records of a message after those of the draft. The tables gain what is new in them. It counts at most
-    /// as many table steps as the message's seven tables have entries, plus 8.
+    /// as many table steps as the message's seven tables have entries, plus 8. Whatever the answer, the draft goes on from what
+    /// it was, so its marks stay marks.
     ///
     /// # Errors
     ///
@@ -78,9 +82,11 @@ impl<M: Seeds> Draft<M> {
         message: &Checked<'_>,
         steps: &mut Steps<L>,
     ) -> Result<(), BuildFault>
-        ensures ok { OnOk result ((ms : Meaning) → StandsFor self.old ms → StandsFor self.new (ms ++ meaning (value_of message.now))) }
-        ensures fault { IfErr result (λ fault. (ms : Meaning) → StandsFor self.old ms → IsFaultOf (ms ++ meaning (value_of message.now)) fault) }
+        ensures ok { OnOk result (StandsForJoined self.old self.new (value_of message.now)) }
+        ensures fault { IfErr result (IsFaultOfJoined self.old (value_of message.now)) }
         ensures same { OnErr result (self.new ≡ self.old) }
+        ensures grown { GoesOn self.old self.new }
+        ensures stands { StandsForSome self.old }
         ensures steps { steps.new ≤ steps.old + entry_count (tables_in (value_of message.now).1.0) + 8 }
     {
         let found = message.message();
@@ -94,14 +100,45 @@ impl<M: Seeds> Draft<M> {
         )
     }
 
-    /// The canonical bytes of what the draft stands for. They are accepted as a message with this meaning.
+    /// A mark of the draft as it is, for `back_to`. It takes no memory.
+    pub fn mark(&self) -> DraftMark
+        ensures { IsMark result self.now }
+    {
+        mark_of(&self.tables, &self.records)
+    }
+
+    /// Keeps as many keys and parts as the mark counts. Where the draft goes on from the contents of the mark, it is these again
+    /// (`laws::marks_lead_back`). It takes no memory.
+    pub fn back_to(&mut self, mark: DraftMark)
+        requires { CanBeCutTo mark self.old }
+        ensures { self.new ≡ cut_to mark self.old }
+    {
+        cut_back(&mut self.tables, &mut self.records, mark);
+    }
+
+    /// The canonical bytes of what the draft stands for, while the draft stays. They are accepted as a message with this meaning.
+    ///
+    /// # Errors
+    ///
+    /// Out of memory.
+    pub fn text(&self, alloc: Global) -> Result<Blob, NoMemory>
+        ensures ok { IfOk result (AreBytesOf self.now) }
+        ensures accepted { IfOk result (AreAcceptedFor self.now) }
+        ensures stands { StandsForSome self.now }
+    {
+        let bytes = copied_bytes(alloc, &self.tables, &self.records)?;
+        Ok(bytes)
+    }
+
+    /// The canonical bytes of what the draft stands for. They are accepted as a message with this meaning. The memory of the
+    /// records is used for them.
     ///
     /// # Errors
     ///
     /// Out of memory. The draft is handed back as it was.
     pub fn finish(self) -> Result<Blob, (Draft<M>, NoMemory)>
-        ensures ok { IfOk result (λ bytes. (ms : Meaning) → StandsFor self ms → bytes ≡ meaning_text resource_profiles ms) }
-        ensures accepted { IfOk result (λ bytes. (ms : Meaning) → StandsFor self ms → IsAcceptedAs bytes ms) }
+        ensures ok { IfOk result (AreBytesOf self) }
+        ensures accepted { IfOk result (AreAcceptedFor self) }
         ensures stands { StandsForSome self }
         ensures same { IfErr result (λ back. back.0 ≡ self) }
     {

@@ -52,7 +52,7 @@ impl Wire for Attr {
             + index_len(3, TableKind::String, &self.unit_strindex, indexes)
     }
 
-    #[tactic(auto, using(pb_wire::proofs::Begins::growing))]
+    #[tactic(auto, using(pb_wire::proofs::Prefixes::growing))]
     fn put_rows<I: NewIndexes>(&self, indexes: &I, out: &mut Blob) -> Result<(), NoMemory> {
         put_index(out, 1, TableKind::String, &self.key_strindex, indexes)?;
         put_value(out, 2, &self.value)?;

@@ -10,7 +10,8 @@ ghost use Rattle.schema.specs.Tables.{every_table};
 ghost use Rattle.schema.specs.Spell.{spell};
 ghost use Rattle.schema.specs.Texts.{items_text};
 ghost use Rattle.schema.specs.Typed.{IsTyped};
-ghost use Rattle.pb_wire.specs.Answers.{Begins, Reads};
+ghost use Rattle.schema.specs.Prefix.{IsPrefix};
+ghost use Rattle.pb_wire.specs.Answers.{Reads};
 ghost use Rattle.dict_rec.specs.Views.{dictionary_view};
 
 use crate::{Attr, Function, Link, Location, Mapping, Stack};
@@ -93,7 +94,7 @@ impl Wire for Dictionary {
             + table_len(7, &self.stack_table, indexes)
     }
 
-    #[tactic(auto, using(pb_wire::proofs::Begins::growing))]
+    #[tactic(auto, using(pb_wire::proofs::Prefixes::growing))]
     fn put_rows<I: NewIndexes>(&self, indexes: &I, out: &mut Blob) -> Result<(), NoMemory> {
         put_table(out, 1, &self.mapping_table, indexes)?;
         put_table(out, 2, &self.location_table, indexes)?;
@@ -125,7 +126,7 @@ fn put_table<T: Wire, I: NewIndexes>(
     requires below { number < 2 ^ 29 }
     requires room { length (items_text number (map (spell T.shape) (map (moved (I.to indexes.now) T.shape) (map T.view table.now)))) < 2 ^ 63 }
     ensures ok { OnOk result (out.new ≡ out.old ++ items_text number (map (spell T.shape) (map (moved (I.to indexes.now) T.shape) (map T.view table.now)))) }
-    ensures err { OnErr result (Begins out.old out.new) }
+    ensures err { OnErr result (IsPrefix out.old out.new) }
     ensures typed { OnOk result (Each (IsTyped T.shape) (map T.view table.now)) }
 {
     put_messages(out, number, table.as_slice(), indexes)

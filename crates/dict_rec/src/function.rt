@@ -57,7 +57,7 @@ impl Wire for Function {
             + number_len(4, self.start_line)
     }
 
-    #[tactic(auto, using(pb_wire::proofs::Begins::growing))]
+    #[tactic(auto, using(pb_wire::proofs::Prefixes::growing))]
     fn put_rows<I: NewIndexes>(&self, indexes: &I, out: &mut Blob) -> Result<(), NoMemory> {
         put_index(out, 1, TableKind::String, &self.name_strindex, indexes)?;
         put_index(

@@ -52,7 +52,7 @@ impl Wire for Line {
             + number_len(3, self.column)
     }
 
-    #[tactic(auto, using(pb_wire::proofs::Begins::growing))]
+    #[tactic(auto, using(pb_wire::proofs::Prefixes::growing))]
     fn put_rows<I: NewIndexes>(&self, indexes: &I, out: &mut Blob) -> Result<(), NoMemory> {
         put_index(out, 1, TableKind::Function, &self.function_index, indexes)?;
         put_number(out, 2, self.line)?;

@@ -17,7 +17,7 @@ pub struct Location {
     /// The mapping that the address is in, an index into the mapping table.
     pub mapping_index: i32,
     pub address: u64,
-    /// The lines, from the innermost call on: each was inlined into the one behind it.
+    /// The lines, from the innermost call on: each was inlined into the one after it.
     pub lines: List<Line>,
     /// Indexes into the attribute table.
     pub attribute_indices: List<i32>,
@@ -63,7 +63,7 @@ impl Wire for Location {
             )
     }
 
-    #[tactic(auto, using(pb_wire::proofs::Begins::growing))]
+    #[tactic(auto, using(pb_wire::proofs::Prefixes::growing))]
     fn put_rows<I: NewIndexes>(&self, indexes: &I, out: &mut Blob) -> Result<(), NoMemory> {
         put_index(out, 1, TableKind::Mapping, &self.mapping_index, indexes)?;
         put_number(out, 2, self.address)?;

@@ -67,7 +67,7 @@ impl Wire for Mapping {
             )
     }
 
-    #[tactic(auto, using(pb_wire::proofs::Begins::growing))]
+    #[tactic(auto, using(pb_wire::proofs::Prefixes::growing))]
     fn put_rows<I: NewIndexes>(&self, indexes: &I, out: &mut Blob) -> Result<(), NoMemory> {
         put_number(out, 1, self.memory_start)?;
         put_number(out, 2, self.memory_limit)?;

@@ -1,4 +1,4 @@
-pub mod Fronts
-pub mod Tables
-pub mod Spelled
-pub mod Cut
+pub mod Prefixes
+pub mod Places
+pub mod Spelling
+pub mod Cuts

@@ -2,13 +2,14 @@
 use Rattle.std.specs.Prelude.{◌≡◌, ℕ, suc, ◌<◌, ◌≤◌, ◌^◌, List, [], ◌∷◌, ◌++◌, length, map, take, get_or, replicate, slice_set}
 use Rattle.schema.specs.Texts.{items_text}
 use Rattle.tables.specs.Keys.{Interned}
-pub use Rattle.key_tables.specs.ByPlace.{at, StartsWith}
+use Rattle.schema.specs.Prefix.{IsPrefix}
+pub use Rattle.key_tables.specs.ByPlace.{at}
 
 -- the keys of each table, by the places of the tables
 abbrev pub Keys : Type 0
 Keys = List (List (List ℕ))
 
--- the keys of tables whose fields have the numbers from n on, each key behind its tag and length
+-- the keys of tables whose fields have the numbers from n on, each key after its tag and length
 unfoldable pub text_from : ℕ → Keys → List ℕ
 text_from n [] = []
 text_from n (k ∷ ks) = items_text n k ++ text_from (suc n) ks
@@ -28,9 +29,9 @@ cut_to (n ∷ ns) [] = []
 cut_to (n ∷ ns) (k ∷ ks) = take n k ∷ cut_to ns ks
 
 -- there are as many tables as in the base, and each begins with the keys that it has there
-pub record Begins (base keys : Keys) : Type 0 where
+pub record ArePrefixes (base keys : Keys) : Type 0 where
   pub many : length keys ≡ length base
-  pub front : (place : ℕ) → StartsWith (get_or base place []) (get_or keys place [])
+  pub front : (place : ℕ) → IsPrefix (get_or base place []) (get_or keys place [])
 
 -- each table has fewer than 2^31 keys, so that its places are indexes of the format
 abbrev pub AreFew : Keys → Type 0
@@ -47,6 +48,12 @@ pub record InternedIn (place : ℕ) (old : Keys) (key : List ℕ) (new : Keys) (
 pub record Counts : Type 0 where
   pub lengths : List ℕ
   pub len : ℕ
+
+-- a mark of these keys
+pub record IsMark (mark : Counts) (keys : Keys) : Type 0 where
+  pub lengths : mark.lengths ≡ lengths keys
+  pub len : mark.len ≡ length (keys_text keys)
+  pub most : mark.len ≤ 2 ^ 62
 
 -- the keys can be cut to what a mark tells
 pub record CanBeCut (mark : Counts) (keys : Keys) : Type 0 where

@@ -1,6 +1,6 @@
 //! One thing for each table of a dictionary.
 ghost use Rattle.std.specs.Prelude.{◌≡◌, ◌<◌, Some, length, slice_get, slice_set};
-ghost use Rattle.pb_wire.specs.Tables.{place_of, table_of};
+ghost use Rattle.pb_wire.specs.TableKinds.{place_of, table_of};
 
 use pb_wire::TableKind;
 use std::marker::Model;

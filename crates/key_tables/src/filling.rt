@@ -2,8 +2,9 @@
 ghost use Rattle.std.specs.Prelude.{◌≡◌, ◌+◌, ◌<◌, ◌≤◌, ◌++◌, ◌^◌, ◌∷◌, [], ℕ, length, IfOk, OnOk, OnErr, get_or};
 ghost use Rattle.schema.specs.Texts.{items_text, long_field};
 ghost use Rattle.schema.specs.Tables.{field_of};
-ghost use Rattle.pb_wire.specs.Tables.{place_of, table_of};
-ghost use Rattle.key_tables.specs.Keys.{InternedIn, StartsWith, cut_to, lengths, text_from};
+ghost use Rattle.pb_wire.specs.TableKinds.{place_of, table_of};
+ghost use Rattle.schema.specs.Prefix.{IsPrefix};
+ghost use Rattle.key_tables.specs.Keys.{InternedIn, cut_to, lengths, text_from};
 
 use crate::ByTable;
 use pb_wire::{Blob, NoMemory, Payload, TableKind, long_len, put_field};
@@ -17,7 +18,7 @@ const MOST_ENTRIES: u32 = 0x7FFF_FFFF;
 /// The tables of a new dictionary.
 pub(crate) type Tables<S> = ByTable<Table<EntryKey, S>>;
 
-/// The length of an entry after its tag and length.
+/// The length of an entry with its tag and length, in bytes.
 pub(crate) fn entry_len(kind: TableKind, key: &EntryKey) -> u64
     ensures is { result ≡ length (long_field (field_of (table_of kind)) key.now) }
     ensures most { result ≤ 2 ^ 63 + 20 }
@@ -77,7 +78,7 @@ pub(crate) fn put_tables<S: BuildHasher + Drop>(
     tables: &[Table<EntryKey, S>],
 ) -> Result<(), NoMemory>
     requires { length tables.now ≡ 7 }
-    ensures front { StartsWith out.old out.new }
+    ensures front { IsPrefix out.old out.new }
     ensures ok { OnOk result (out.new ≡ out.old ++ text_from 1 tables.now) }
 {
     for place in 0..tables.len() {
@@ -96,7 +97,7 @@ fn put_table<S: BuildHasher + Drop>(
 ) -> Result<(), NoMemory>
     requires above { 1 ≤ number }
     requires below { number ≤ 536870911 }
-    ensures front { StartsWith out.old out.new }
+    ensures front { IsPrefix out.old out.new }
     ensures ok { OnOk result (out.new ≡ out.old ++ items_text number table.now) }
 {
     for place in 0..table.len() {

@@ -2,9 +2,10 @@
 ghost use Rattle.std.specs.Prelude.{◌≡◌, ◌+◌, ◌<◌, ◌≤◌, ◌++◌, ◌^◌, [], length, false, IfOk, OnOk, OnErr, Some, slice_get};
 ghost use Rattle.schema.specs.Shape.{Table as OfSchema};
 ghost use Rattle.schema.specs.Tables.{same_table};
-ghost use Rattle.pb_wire.specs.Tables.{table_of};
+ghost use Rattle.pb_wire.specs.TableKinds.{table_of};
 ghost use Rattle.tables.specs.Keys.{Interned};
-ghost use Rattle.key_tables.specs.Keys.{AreFew, Begins, CanBeCut, Keys, StartsWith, at, cut_to, keys_text, lengths, zero_keys};
+ghost use Rattle.schema.specs.Prefix.{IsPrefix};
+ghost use Rattle.key_tables.specs.Keys.{AreFew, ArePrefixes, CanBeCut, IsMark, Keys, at, cut_to, keys_text, lengths, zero_keys};
 
 use crate::filling::{Tables, cut_back, entry_len, intern_in, marks, put_tables};
 use crate::{ByTable, KeyTablesMark};
@@ -82,7 +83,7 @@ impl<S: BuildHasher + Drop> KeyTables<S> {
         ensures others { OnOk result ((T : OfSchema) → same_table T (table_of kind) ≡ false → at self.new T ≡ at self.old T) }
         ensures same { OnErr result (self.new ≡ self.old) }
         ensures few { AreFew self.new }
-        ensures kept { (base : Keys) → Begins base self.old → Begins base self.new }
+        ensures kept { (base : Keys) → ArePrefixes base self.old → ArePrefixes base self.new }
         ensures seven { length self.new ≡ 7 }
         ensures steps { steps.new ≤ steps.old + 1 }
     {
@@ -102,9 +103,7 @@ impl<S: BuildHasher + Drop> KeyTables<S> {
     /// A mark of the tables as they are, for `back_to`. It takes no memory.
     pub fn mark(&self) -> KeyTablesMark
         requires { length self.now ≡ 7 }
-        ensures lengths { result.lengths ≡ lengths self.now }
-        ensures len { result.len ≡ length (keys_text self.now) }
-        ensures most { result.len ≤ 2 ^ 62 }
+        ensures { IsMark result self.now }
     {
         KeyTablesMark {
             lengths: marks(&self.tables),
@@ -113,10 +112,10 @@ impl<S: BuildHasher + Drop> KeyTables<S> {
     }
 
     /// Drops the entries that came after the mark. It takes no memory.
-    pub fn back_to(&mut self, mark: &KeyTablesMark)
+    pub fn back_to(&mut self, mark: KeyTablesMark)
         requires seven { length self.old ≡ 7 }
-        requires mark { CanBeCut mark.now self.old }
-        ensures { self.new ≡ cut_to mark.now.lengths self.old }
+        requires mark { CanBeCut mark self.old }
+        ensures { self.new ≡ cut_to mark.lengths self.old }
     {
         cut_back(&mut self.tables, &mark.lengths);
         self.len = mark.len;
@@ -140,10 +139,10 @@ impl<S: BuildHasher + Drop> KeyTables<S> {
     ///
     /// # Errors
     ///
-    /// Out of memory. What was there still stands in front.
+    /// Out of memory. What was there is still in front.
     pub fn put_keys(&self, out: &mut Blob) -> Result<(), NoMemory>
         requires { length self.now ≡ 7 }
-        ensures front { StartsWith out.old out.new }
+        ensures front { IsPrefix out.old out.new }
         ensures ok { OnOk result (out.new ≡ out.old ++ keys_text self.now) }
     {
         put_tables(out, self.tables.as_slice())

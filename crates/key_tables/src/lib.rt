@@ -4,6 +4,7 @@
 mod by_table;
 mod filling;
 mod key_tables;
+pub mod laws;
 mod mark;
 mod zero_tables;
 

@@ -3,7 +3,7 @@ use std::marker::Model;
 use tables::Mark;
 
 /// How many keys each table had, and the length of their spelling.
-#[derive(Debug, Drop)]
+#[derive(Clone, Copy, Debug)]
 pub struct KeyTablesMark {
     pub(crate) lengths: [Mark; 7],
     pub(crate) len: u64,
@@ -15,4 +15,6 @@ impl Model for KeyTablesMark {
     ghost Value = { Counts };
 
     ghost view = { λ m. record { lengths = m.lengths; len = m.len } };
+
+    ghost inverse = { λ c. record { lengths = c.lengths; len = c.len } };
 }

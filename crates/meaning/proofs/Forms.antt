@@ -9,8 +9,8 @@ use Rattle.meaning.specs.Meaning.{at_each, walk_each, blank, zero_value, entry_a
 use Rattle.meaning.specs.Canonical.{zeros, tables_of, renumber, entries}
 use Rattle.meaning.proofs.Trees.{value-tree}
 use Rattle.meaning.proofs.Places.{each_all, each_with_new}
-use Rattle.meaning.proofs.Sound.{each_here}
-use Rattle.meaning.proofs.Closed.{each_map}
+use Rattle.meaning.proofs.Soundness.{each_here}
+use Rattle.meaning.proofs.Closure.{each_map}
 
 -- ---- cases
 

@@ -9,15 +9,15 @@ use Rattle.meaning.specs.Tree.{Tree, Integer}
 use Rattle.meaning.specs.Tables.{Tables, entry, same_table, has, place, with_new}
 use Rattle.meaning.specs.Meaning.{blank, zero_value, resolve, uses, HasZeros}
 use Rattle.meaning.specs.Canonical.{values}
-use Rattle.meaning.specs.Steps.{Stands, Interned, Written, WrittenEach, is_plain, Memo, Ready, Noted}
+use Rattle.meaning.specs.Renumbering.{IsDeduplicated, Entered, Written, WrittenEach, is_plain, Memo, Ready, Noted}
 use Rattle.schema_laws.proofs.Lists.{each_left}
 use Rattle.meaning.proofs.Places.{each_all, grown-begins, place-lt, with_new-all}
-use Rattle.meaning.proofs.Sound.{same_table-itself, same_table-true, entry_sound}
-use Rattle.meaning.proofs.Closed.{zero_uses}
+use Rattle.meaning.proofs.Soundness.{same_table-itself, same_table-true, entry_sound}
+use Rattle.meaning.proofs.Closure.{zero_uses}
 use Rattle.meaning.proofs.Orders.{avoids, uses_none}
-use Rattle.meaning.proofs.Zero.{ZerosFirst, zero-place, zero-had, blank-resolves}
-use Rattle.meaning.proofs.Grown.{same_grown, written_covers, written_grown, written_again, renumber-plain, written_none, written_single, written_append}
-use Rattle.meaning.proofs.Interned.{begins, written_index}
+use Rattle.meaning.proofs.Zeros.{ZerosFirst, zero-place, zero-had, blank-resolves}
+use Rattle.meaning.proofs.Growth.{same_grown, written_covers, written_grown, written_again, renumber-plain, written_none, written_single, written_append}
+use Rattle.meaning.proofs.Entries.{begins, written_index}
 
 -- ---- an index that was met before
 
@@ -47,17 +47,17 @@ kept_set W memo i j h r a b l e =
 -- Its entry was written, went into its table, and the memo has its place there.
 pub met_first : (d v k k' : Tables) (memo memo' : Memo) (T : Table) (i j : ℕ) (x : Tree) → Ready d k memo
     → Written (entry T) v (values k) (resolve d (Index T (entry T)) (Integer (pos i))) x
-    → Interned T x k k' → j ≡ place (k' T) x → Noted T i j memo memo'
+    → Entered T x k k' → j ≡ place (k' T) x → Noted T i j memo memo'
     → Ready d k' memo' × Written (Index T (entry T)) v (values k') (resolve d (Index T (entry T)) (Integer (pos i))) (Integer (pos j))
 met_first d v k k' memo memo' T i j x r s h p n =
     let w : Tables = values k in
     let u : Tables = values k' in
     let m : Tree = resolve d (Index T (entry T)) (Integer (pos i)) in
-    let here : Stands k' × Written (Index T (entry T)) v u m (Integer (pos j)) = written_index v k k' T m x j r.stands s h p in
-    let alone : Stands k' × Written (Index T (entry T)) w u m (Integer (pos j)) = written_index w k k' T m x j r.stands (written_again s (same_grown w)) h p in
+    let here : IsDeduplicated k' × Written (Index T (entry T)) v u m (Integer (pos j)) = written_index v k k' T m x j r.deduplicated s h p in
+    let alone : IsDeduplicated k' × Written (Index T (entry T)) w u m (Integer (pos j)) = written_index w k k' T m x j r.deduplicated (written_again s (same_grown w)) h p in
     let now : Written (Index T (entry T)) u u m (Integer (pos j)) = written_again alone.1 (same_grown u) in (
       record {
-        stands = here.0;
+        deduplicated = here.0;
         zeros = λ U. zeros_now U (grown-begins (cond (same_table U T) (x ∷ []) []) (k U));
         kept = λ U. kept_now U (same_table U T) refl
             (λ a b l e. written_again (r.kept U a b l e) (written_grown alone.1)) now (n U);
@@ -124,7 +124,7 @@ written_place k T v m j r =
 -- tables of zero entries alone and no index that was met are ready
 pub first_ready : (d k : Tables) (memo : Memo) → ((T : Table) → k T ≡ blank (entry T) ∷ []) → ((T : Table) → memo T ≡ replicate (length (d T)) None) → Ready d k memo
 first_ready d k memo h e = record {
-  stands = (begins k h).1;
+  deduplicated = (begins k h).1;
   zeros = λ T. ([], h T);
   kept = λ T i j l q. absurd (none (length (d T)) i j (rw (e T) at q));
   all = λ T. rw (e T) (length-replicate (length (d T)) None);
@@ -159,7 +159,7 @@ written_plains s h v (m ∷ ms) = written_append (written_single (written_plain 
 
 -- ---- reading tables
 
--- what stands at an index of a list, by any default
+-- what is at an index of a list, by any default
 pub read_at : {X : Type 0} (xs : List X) (i : ℕ) (d x : X) → i < length xs → x ≡ get_or xs i x → get_or xs i d ≡ x
 read_at [] i d x l e = absurd (omega arith)
 read_at (y ∷ ys) zero d x l e = sym e

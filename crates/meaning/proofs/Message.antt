@@ -5,8 +5,8 @@ use Rattle.schema.specs.Each.{Each}
 use Rattle.schema.specs.Fits.{HasRow, Lawful, Fits}
 use Rattle.schema.specs.Merge.{merge}
 use Rattle.schema.specs.Shape.{Shape, End, One, Value, empty, Table, Mappings, Locations, Functions, Links, Strings, Attributes, Stacks}
-use Rattle.schema_laws.proofs.Back.{reads_back}
-use Rattle.schema_laws.proofs.Lawful.{lawful_from}
+use Rattle.schema_laws.proofs.ReadingBack.{reads_back}
+use Rattle.schema_laws.proofs.Lawfulness.{lawful_from}
 use Rattle.schema_laws.proofs.Lists.{each_left, each_right}
 use Rattle.schema_laws.proofs.ReadFits.{spelled_apart}
 use Rattle.meaning.specs.Tree.{Tree, listed, tree, value, IsOf}
@@ -14,9 +14,9 @@ use Rattle.meaning.specs.Tables.{Tables, IsSound, entry, has}
 use Rattle.meaning.specs.Meaning.{at_each, walk_each, blank, resolve, uses, AreElements, IsMeaning}
 use Rattle.meaning.specs.Canonical.{HoldsForEach, IsWithin, renumber, entries, records, record_list}
 use Rattle.meaning.specs.Message.{dictionary, message, tables_in, meaning_of, dictionary_value, tables_for, canonical_value, meaning_text}
-use Rattle.meaning.proofs.Restores.{covering, tables-cover}
-use Rattle.meaning.proofs.Closed.{record_within, entries_within}
-use Rattle.meaning.proofs.Zero.{entries_first}
+use Rattle.meaning.proofs.Resolution.{covering, tables-cover}
+use Rattle.meaning.proofs.Closure.{record_within, entries_within}
+use Rattle.meaning.proofs.Zeros.{entries_first}
 use Rattle.meaning.proofs.Forms.{map-is, trees_are, resolved_means, renumbered_is, entries_are}
 
 -- ---- meanings

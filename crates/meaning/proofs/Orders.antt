@@ -1,4 +1,4 @@
--- Whether an entry is visited before or behind those that it names makes no difference.
+-- Whether an entry is visited before or after those that it names makes no difference.
 use Rattle.std.proofs.Common.{◌≡◌, List, [], ◌∷◌, ◌++◌, Bool, true, false, cond, not, ◌&&◌, refl, sym, ap, ◌∙◌, subst}
 use mathlib.Core.Path.{fun_ext}
 use Rattle.std.proofs.lemmas.List.{append-nil}
@@ -8,7 +8,7 @@ use Rattle.meaning.specs.Tree.{Tree, Natural, Integer, Boolean, Octets, Nil, Con
 use Rattle.meaning.specs.Tables.{IsSound, entry, same_table, with_new}
 use Rattle.meaning.specs.Meaning.{walk_parts, walk_each, uses, visits}
 use Rattle.meaning.specs.Canonical.{zeros, tables_of, visited_tables}
-use Rattle.meaning.proofs.Sound.{same_table-true}
+use Rattle.meaning.proofs.Soundness.{same_table-true}
 
 -- a shape names no entry of the table
 abbrev pub avoids : Table → Shape → Bool

@@ -20,7 +20,7 @@ map-map f g (x ∷ xs) = ap (λ l. g (f x) ∷ l) (map-map f g xs)
 
 -- ---- places
 
--- a value that a list has stands at its place
+-- a value that a list has is at its place
 pub at_place : (ks : List Tree) (t d : Tree) → has ks t ≡ true → get_or ks (place ks t) d ≡ t
 at_place [] t d h = cc
 at_place (k ∷ ks) t d h = by_test (same k t) refl h (at_place ks t d)
@@ -38,7 +38,7 @@ place-lt (k ∷ ks) t h = by_test (same k t) h (place-lt ks t)
     by_test true h r = omega arith
     by_test false h r = let l : place ks t < length ks = r h in omega arith
 
--- what comes behind a list changes nothing in it
+-- what comes after a list changes nothing in it
 pub has-append : (ks ls : List Tree) (t : Tree) → has ks t ≡ true → has (ks ++ ls) t ≡ true
 has-append [] ls t h = cc
 has-append (k ∷ ks) ls t h = by_test (same k t) h (has-append ks ls t)
@@ -136,7 +136,7 @@ same-sym t u h = by_test (same u t) refl
         let i : u ≡ t = same-true u t e in
         let k : same t u ≡ true = rw i (same-itself t) in cc
 
--- a list has no value that neither it had nor came behind it
+-- a list has no value that neither it had nor came after it
 has-neither : (ks : List Tree) (t x : Tree) → has ks x ≡ false → same t x ≡ false → has (ks ++ t ∷ []) x ≡ false
 has-neither [] t x h e = rw e refl
 has-neither (k ∷ ks) t x h e = by_test (same k x) h (has-neither ks t x)
@@ -145,7 +145,7 @@ has-neither (k ∷ ks) t x h e = by_test (same k x) h (has-neither ks t x)
     by_test true h r = h
     by_test false h r = r h e
 
--- a new value behind distinct ones
+-- a new value after distinct ones
 distinct-push : (ks : List Tree) (t : Tree) → Distinct ks → has ks t ≡ false → Distinct (ks ++ t ∷ [])
 distinct-push [] t d h = (refl, tt)
 distinct-push (k ∷ ks) t d h = by_test (same k t) refl h (distinct-push ks t d.1)

@@ -24,7 +24,7 @@ use Rattle.meaning.specs.Ranges.{ElementsInRange, HasRange}
 use Rattle.meaning.specs.Message.{dictionary, message, tables_in, meaning_of, table_values, dictionary_value, tables_for, canonical_value, meaning_text, entry_text, table_text, dictionary_text, record_text}
 use Rattle.meaning.proofs.Trees.{value-tree}
 use Rattle.meaning.proofs.Places.{each_all}
-use Rattle.meaning.proofs.Closed.{each_map}
+use Rattle.meaning.proofs.Closure.{each_map}
 use Rattle.meaning.proofs.Forms.{by_parts, by_elements, tree_is, entry_has, IsHandedOn, tables_have}
 use Rattle.meaning.proofs.Message.{message_lawful, messages_mean, rebuilt, text_apart}
 use Rattle.meaning.proofs.Texts.{text-parts}

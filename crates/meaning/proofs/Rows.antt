@@ -1,4 +1,4 @@
--- The steps of code that goes through typed values behind a dictionary.
+-- The steps of code that goes through typed values with a dictionary.
 use Rattle.std.proofs.Common.{◌≡◌, ℕ, ◌+◌, ◌<◌, List, [], ◌∷◌, ◌++◌, length, get_or, take, map, true, refl, sym, ap, ◌∙◌, subst}
 use Rattle.std.proofs.lemmas.Bool.{and_parts}
 use Rattle.std.proofs.lemmas.List.{take_more, map-append}
@@ -6,9 +6,9 @@ use Rattle.schema.specs.Shape.{Shape, Index, One, Many, Value}
 use Rattle.meaning.specs.Tree.{Tree, Cons, listed, tree}
 use Rattle.meaning.specs.Tables.{Tables}
 use Rattle.meaning.specs.Meaning.{at_each, resolve}
-use Rattle.meaning.specs.Steps.{Written, WrittenEach, Becomes, BecomeEach, is_plain}
+use Rattle.meaning.specs.Renumbering.{Written, WrittenEach, Becomes, BecomeEach, is_plain}
 use Rattle.meaning.proofs.Places.{map-map}
-use Rattle.meaning.proofs.Grown.{each-listed, plain_each, plain_parts, written_row, written_rows, written_push}
+use Rattle.meaning.proofs.Growth.{each-listed, plain_each, plain_parts, written_row, written_rows, written_push}
 use Rattle.meaning.proofs.Indexes.{written_plain}
 
 -- a row, then the others

@@ -7,19 +7,19 @@ use Rattle.schema.specs.Fits.{Lawful, Fits}
 use Rattle.schema.specs.Shape.{Shape, End, One, Many, IsMessage, Table, Mappings, Locations, Functions, Links, Strings, Attributes, Stacks}
 use Rattle.schema.specs.Texts.{varint_upto, long_field, bytes_field, items_text}
 use Rattle.schema.specs.Spell.{spell, spell_many}
-use Rattle.schema_laws.proofs.Lawful.{lawful_from}
+use Rattle.schema_laws.proofs.Lawfulness.{lawful_from}
 use Rattle.schema_laws.proofs.ReadFits.{spelled_apart}
 use Rattle.meaning.specs.Tree.{Tree, tree, value, octets_of, IsOf, listed, elements, head_of}
 use Rattle.meaning.specs.Tables.{Tables, entry}
 use Rattle.meaning.specs.Meaning.{blank, at_each}
-use Rattle.meaning.specs.Steps.{Drafted}
+use Rattle.meaning.specs.Renumbering.{Drafted}
 use Rattle.meaning.specs.Canonical.{renumber, entries, records, record_list}
 use Rattle.meaning.specs.Message.{dictionary, dictionary_value, table_values, tables_for, meaning_text, entry_text, table_text, dictionary_text, record_text}
 use Rattle.meaning.proofs.Drafts.{draft_canonical}
-use Rattle.meaning.proofs.Grown.{each-listed}
+use Rattle.meaning.proofs.Growth.{each-listed}
 use Rattle.meaning.proofs.Places.{map-map}
 use Rattle.meaning.proofs.Trees.{elements-listed}
-use Rattle.meaning.proofs.Zero.{entries_first}
+use Rattle.meaning.proofs.Zeros.{entries_first}
 
 -- ---- the dictionary
 
@@ -67,7 +67,7 @@ bytes-long : (n : ℕ) (b : List ℕ) → 0 < length b → bytes_field n b ≡ l
 unfolding bytes_field
 bytes-long n b h = rw (ne_eqb (length b) 0 (λ e. absurd (omega arith))) refl
 
--- records, each behind its tag and length
+-- records, each after its tag and length
 records-text : (k : Shape) → IsMessage k → (xs : List Tree) → spell_many k (spell k) 1 (map (value k) xs) ≡ items_text 1 (map (record_text k) xs)
 records-text End h xs = ap (items_text 1) (map-map (value End) (spell End) xs)
 records-text (One n k rest) h xs = ap (items_text 1) (map-map (value (One n k rest)) (spell (One n k rest)) xs)

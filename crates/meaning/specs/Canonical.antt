@@ -18,14 +18,14 @@ tables_of s m T = with_new (zeros T) (uses T s m)
 abbrev pub visited_tables : Shape → Tree → Tables
 visited_tables s m T = with_new (zeros T) (visits T s m)
 
--- each value of a table becomes its place there
+-- each value of a table becomes its index there
 abbrev pub renumber : Tables → Shape → Tree → Tree
 renumber v (Index T k) t = Integer (pos (place (v T) t))
 renumber v (One n k rest) t = at_parts (renumber v k) (renumber v rest) t
 renumber v (Many n k rest) t = at_parts (at_each (renumber v k)) (renumber v rest) t
 renumber v s t = t
 
--- the entries of lists of values, and the values behind entries
+-- the entries of lists of values, and the values that entries stand for
 abbrev pub entries : Tables → Tables
 entries v T = map (renumber v (entry T)) (v T)
 
@@ -39,7 +39,7 @@ records k = Many 1 k End
 abbrev pub record_list : List Tree → Tree
 record_list ms = Cons (listed ms) Nil
 
--- ---- what holds of such tables
+-- ---- properties of such tables
 
 -- P of the first row and Q of the others; and P of each element
 abbrev pub HoldsForParts : (Tree → Type 0) → (Tree → Type 0) → Tree → Type 0

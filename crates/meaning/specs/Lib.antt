@@ -2,7 +2,7 @@ pub mod Tree
 pub mod Tables
 pub mod Meaning
 pub mod Canonical
-pub mod Steps
+pub mod Renumbering
 pub mod Memo
 pub mod Message
 pub mod Samples

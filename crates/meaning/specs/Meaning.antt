@@ -26,7 +26,7 @@ walk_each f t = []
 abbrev pub blank : Shape → Tree
 blank s = tree s (empty s)
 
--- what the empty value means where entries 0 are zero: behind its indexes are empty values again
+-- what the empty value means where entries 0 are zero: its indexes lead to empty values again
 abbrev pub zero_value : Shape → Tree
 zero_value (Index T k) = zero_value k
 zero_value (One n k rest) = Cons (zero_value k) (zero_value rest)
@@ -53,7 +53,7 @@ uses T (One n k rest) t = walk_parts (uses T k) (uses T rest) t
 uses T (Many n k rest) t = walk_parts (walk_each (uses T k)) (uses T rest) t
 uses T s t = []
 
--- The same in the order of a program that renumbers: an entry comes behind those that it names, since their new indexes
+-- The same in the order of a program that renumbers: an entry comes after those that it names, since their new indexes
 -- are part of it.
 abbrev pub visits : Table → Shape → Tree → List Tree
 visits T (Index U k) t = visits T k t ++ cond (same_table T U) (t ∷ []) []

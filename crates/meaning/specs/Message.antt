@@ -60,7 +60,7 @@ abbrev pub entry_text : Table → Tree → List ℕ
 entry_text Strings e = octets_of e
 entry_text T e = spell (entry T) (value (entry T) e)
 
--- a table's entries, each behind its tag and length, also an empty one
+-- a table's entries, each after its tag and length, also an empty one
 abbrev pub table_text : Table → List Tree → List ℕ
 table_text T es = items_text (field_of T) (map (entry_text T) es)
 

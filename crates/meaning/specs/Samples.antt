@@ -47,7 +47,7 @@ one_stack_text = refl
 
 -- ---- the order of entries
 
--- a dictionary with strings alone, of which one stands doubly, and one is named by nothing
+-- a dictionary with strings alone, of which one is a duplicate, and one is named by nothing
 abbrev strings_only : Value dictionary
 strings_only = ([], ([], ([], ([], ([] ∷ (99 ∷ []) ∷ (99 ∷ []) ∷ (110 ∷ []) ∷ (98 ∷ []) ∷ [], ([], ([], tt)))))))
 

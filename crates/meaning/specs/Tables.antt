@@ -12,7 +12,7 @@ IsSound (One n k rest) = IsSound k × IsSound rest
 IsSound (Many n k rest) = IsSound k × IsSound rest
 IsSound s = Unit {0}
 
--- lists by table: the entries of a dictionary, or the values behind them
+-- lists by table: the entries of a dictionary, or the values that they stand for
 abbrev pub Tables : Type 0
 Tables = Table → List Tree
 
@@ -28,16 +28,16 @@ abbrev pub place : List Tree → Tree → ℕ
 place [] t = 0
 place (k ∷ ks) t = cond (same k t) 0 (suc (place ks t))
 
--- the list with a value behind it that is new to it
+-- the list with a value at its end, if that is new
 abbrev pub with_one : List Tree → Tree → List Tree
 with_one ks t = cond (has ks t) ks (ks ++ t ∷ [])
 
--- the list with values behind it, each only where it is new by then
+-- the list with values at its end, each only where it is new by then
 abbrev pub with_new : List Tree → List Tree → List Tree
 with_new ks [] = ks
 with_new ks (t ∷ ts) = with_new (with_one ks t) ts
 
--- no value stands twice
+-- no value is there twice
 abbrev pub Distinct : List Tree → Type 0
 Distinct [] = Unit {0}
 Distinct (k ∷ ks) = (has ks k ≡ false) × Distinct ks

@@ -1,4 +1,4 @@
--- Values seen alike for all shapes, so that values of different tables can be compared and stand in lists of one type.
+-- Values of all shapes as one type, so that values of different tables can be compared and be in lists of one type.
 use Rattle.std.specs.Prelude.{◌≡◌, ℕ, ℤ, pos, List, [], ◌∷◌, map, Bool, true, false, ◌&&◌, ◌==◌, if◌then◌else◌}
 use Rattle.std.specs.Bool.{beq}
 use Rattle.std.specs.Ordering.{int_eq}

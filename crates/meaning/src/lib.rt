@@ -1,5 +1,5 @@
 //! What a Profiles message means when every index is replaced by the value of its entry, and the canonical tables of a
-//! meaning. The definitions are in `specs/`, by recursion on a message's shape; each law stands on a public function with
+//! meaning. The definitions are in `specs/`, by recursion on a message's shape; each law is the contract of a public function with
 //! no body, over all shapes at once.
 #![tactic(auto)]
 
@@ -17,7 +17,7 @@ ghost use Rattle.meaning.specs.Meaning.{resolve, uses, blank, zero_value, entry_
 ghost use Rattle.meaning.specs.Message.{dictionary, dictionary_value, tables_in, message, meaning_of, tables_for, canonical_value, meaning_text, entry_text, record_text, dictionary_text};
 ghost use Rattle.meaning.specs.Ranges.{HasRange};
 ghost use Rattle.meaning.specs.Canonical.{zeros, tables_of, visited_tables, renumber, entries, values, records, record_list, IsWithin, Covers};
-ghost use Rattle.meaning.specs.Steps.{Stands, WrittenEach, Drafted};
+ghost use Rattle.meaning.specs.Renumbering.{IsDeduplicated, WrittenEach, Drafted};
 
 /// Laws of values with the new indexes of a memo.
 pub mod moving;
@@ -55,7 +55,7 @@ pub fn tables_hold_each_value_once()
     ensures entries { (s : Shape) → IsSound s → (m : Tree) → (T : Table) → Distinct (entries (tables_of s m) T) }
 {}
 
-/// Visiting each entry behind those that it names gives the same tables.
+/// Visiting each entry after those that it names gives the same tables.
 pub fn orders_agree()
     ensures { (s : Shape) → IsSound s → (m : Tree) → (T : Table) → visited_tables s m T ≡ tables_of s m T }
 {}
@@ -69,7 +69,7 @@ pub fn zero_comes_first()
 {}
 
 /// Where entries 0 are the zero entries, the empty value means the zero value, and so does an index to an empty entry,
-/// wherever that stands. An index to an entry that means the zero value becomes 0.
+/// wherever that is. An index to an entry that means the zero value becomes 0.
 pub fn zero_entries_mean_zero()
     ensures empty { (d : Tables) → HasZeros d → (s : Shape) → IsSound s → resolve d s (blank s) ≡ zero_value s }
     ensures index { (d : Tables) → HasZeros d → (T : Table) → (i : ℕ) → entry_at (d T) (entry T) (Integer (pos i)) ≡ blank (entry T)
@@ -84,23 +84,23 @@ pub fn empty_tables_hold_zero()
     ensures { (d : Tables) → (s : Shape) → IsSound s → (t : Tree) → resolve (filled d) s t ≡ resolve d s t }
 {}
 
-/// Entries that stand behind those of a dictionary, and that no index of it names, change no meaning.
+/// Entries after those of a dictionary that no index of it names change no meaning.
 pub fn unused_entries_mean_nothing()
     ensures { (d : Tables) → ((T : Table) → Each (IsWithin d (entry T)) (d T)) → (more : Tables) → (s : Shape) → IsSound s → (t : Tree) → IsWithin d s t
         → resolve (λ T. filled d T ++ more T) s t ≡ resolve d s t }
 {}
 
-/// A draft begins with zero entries alone and gains what is written behind its records. Its tables are as before when they
+/// A draft begins with zero entries alone and gains what is written after its records. Its tables are as before when they
 /// are cut to their old lengths.
 pub fn drafts_grow_and_are_cut_back()
     ensures begin { (k : Shape) → (d : Tables) → ((T : Table) → d T ≡ blank (entry T) ∷ []) → Drafted k d [] [] }
     ensures join { (k : Shape) → (d : Tables) → (e : Tables) → (ms : List Tree) → (ns : List Tree) → (xs : List Tree) → (ys : List Tree)
-        → Drafted k d ms xs → Stands e → WrittenEach k (values d) (values e) ns ys → Drafted k e (ms ++ ns) (xs ++ ys) }
+        → Drafted k d ms xs → IsDeduplicated e → WrittenEach k (values d) (values e) ns ys → Drafted k e (ms ++ ns) (xs ++ ys) }
     ensures cut { (k : Shape) → (d : Tables) → (e : Tables) → (ns : List Tree) → (ys : List Tree)
-        → Stands d → Stands e → WrittenEach k (values d) (values e) ns ys → (T : Table) → take (length (d T)) (e T) ≡ d T }
+        → IsDeduplicated d → IsDeduplicated e → WrittenEach k (values d) (values e) ns ys → (T : Table) → take (length (d T)) (e T) ≡ d T }
 {}
 
-/// The entries and records of a draft are the canonical ones of its meanings, and so are its bytes: the records, each behind
+/// The entries and records of a draft are the canonical ones of its meanings, and so are its bytes: the records, each after
 /// its tag and length, and then the dictionary.
 pub fn drafts_are_canonical()
     ensures entries { (k : Shape) → (d : Tables) → (ms : List Tree) → (xs : List Tree) → Drafted k d ms xs → (T : Table)
@@ -177,7 +177,7 @@ pub fn canonical_bytes_are_unique()
         → meaning_text k (meaning_of k x) ≡ meaning_text k (meaning_of k y) → meaning_of k x ≡ meaning_of k y }
 {}
 
-/// The canonical bytes are the records, each behind its tag and length, and then the dictionary, which is always written:
+/// The canonical bytes are the records, each after its tag and length, and then the dictionary, which is always written:
 /// each table has its zero entry (`canonical_message_is_in_order`).
 pub fn canonical_bytes_have_their_parts()
     ensures whole { (k : Shape) → IsMessage k → (ms : List Tree) → let v = tables_for k ms in

@@ -4,7 +4,7 @@ ghost use Rattle.schema.specs.Shape.{Shape, Table, Value};
 ghost use Rattle.meaning.specs.Canonical.{renumber, values};
 ghost use Rattle.meaning.specs.Meaning.{HasZeros, resolve};
 ghost use Rattle.meaning.specs.Memo.{Keeps, Knows, Met, index_in};
-ghost use Rattle.meaning.specs.Steps.{Memo, Ready, Written};
+ghost use Rattle.meaning.specs.Renumbering.{Memo, Ready, Written};
 ghost use Rattle.meaning.specs.Tables.{IsSound, Tables};
 ghost use Rattle.meaning.specs.Tree.{tree};
 

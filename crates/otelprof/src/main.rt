@@ -36,7 +36,7 @@ fn main(rt: HostRuntime) -> ExitCode {
     ExitCode::from(status)
 }
 
-// The words cannot be had, since one of them isn't UTF-8.
+// The command line cannot be had, since one of its words isn't UTF-8.
 fn bad_words<E: Sink>(err: &mut E) -> ExitCode {
     let _ = put_all(err, b"otelprof: bad words\n");
     ExitCode::from(BAD_WORDS)

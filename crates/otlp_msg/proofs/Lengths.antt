@@ -4,7 +4,7 @@ use Rattle.std.proofs.lemmas.Bool.{ne_eqb}
 use Rattle.schema.specs.Messages.{dictionary, entries_in}
 use Rattle.schema.specs.Shape.{Value, Table, Mappings, Locations, Functions, Links, Strings, Attributes, Stacks}
 use Rattle.schema.specs.Tables.{every_table}
-use Rattle.pb_wire.specs.Tables.{place_of, table_of}
+use Rattle.pb_wire.specs.TableKinds.{place_of, table_of}
 use Rattle.pb_wire.specs.declared.table_kind.TableKind.{TableKind}
 use Rattle.otlp_msg.specs.Lengths.{one_at_least}
 use Rattle.otlp_msg.specs.Walk.{count, lengths_in}

@@ -8,7 +8,7 @@ use Rattle.schema.specs.Texts.{long_field, items_text, numbers_text, fixed_text,
 use Rattle.schema.specs.Spell.{spell, spell_one, spell_many}
 use Rattle.schema.specs.Each.{Each}
 use Rattle.schema.specs.Fits.{Fits, FitsTogether}
-use Rattle.schema_laws.proofs.Fixed.{eight_len}
+use Rattle.schema_laws.proofs.FixedNumbers.{eight_len}
 use Rattle.schema_laws.proofs.Lengths.{bytes_field_le, long_field_le}
 use Rattle.schema_laws.proofs.Onto.{long_some, varint_some}
 use Rattle.otlp_msg.specs.Within.{HasPlaces}

@@ -1,10 +1,10 @@
--- What the answer of a reader of messages means, in the words of the encoding and of the schema.
+-- What the answer of a reader of messages means, in the terms of the encoding and of the schema.
 use Rattle.std.proofs.Common.{◌≡◌, ℕ, List, Result, Ok, Err, IfOk, IfErr}
 use Rattle.otlp_msg.specs.declared.refusal.Refusal.{Refusal}
 use Rattle.otlp_msg.specs.declared.refusal.Refusal.TheVariants.{Size, Wire, ZeroEntry, Dangling, NoMemory}
 use Rattle.otlp_msg.specs.Acceptance.{IsAccepted, IsRefusedFor}
 use Rattle.otlp_msg.specs.Message.{Message, IsRefusal, message_of}
-use Rattle.otlp_msg.proofs.Decided.{accepted_from, dangling_from, size_from, wire_from, zero_entry_from}
+use Rattle.otlp_msg.proofs.Decisions.{accepted_from, dangling_from, size_from, wire_from, zero_entry_from}
 
 pub accepted_if : {C : Type 0} (value : C → Message) (body : List ℕ) (r : Result C Refusal) → IfOk r (λ c. message_of body ≡ Ok (value c))
     → IfOk r (λ c. IsAccepted body (value c))

@@ -17,7 +17,7 @@ use Rattle.meaning.specs.Tree.{tree, value, same}
 use Rattle.meaning.proofs.Trees.{same-itself, same-true, value-tree}
 use Rattle.pb_wire.specs.declared.table_kind.TableKind.{TableKind}
 use Rattle.pb_wire.specs.declared.table_kind.TableKind.TheVariants as kind
-use Rattle.pb_wire.specs.Tables.{table_of}
+use Rattle.pb_wire.specs.TableKinds.{table_of}
 use Rattle.otlp_msg.specs.Walk.{kind_of}
 use Rattle.otlp_msg.specs.ZeroEntries.{BeginsWithZero, begins_with_zero, HasZeroEntry, has_zero_entry, all_tables, first_other}
 
@@ -126,7 +126,7 @@ other_behind d t tables table h f = record {
   other = f.other;
 }
 
--- the test of one table and of those behind it
+-- the test of one table and of those after it
 other_step : (d : Value dictionary) (t : TableKind) (tables : List TableKind) (table : TableKind) → (first_other d tables ≡ Some table → FirstOther d tables table)
     → (b : Bool) → has_zero_entry d t ≡ b → cond b (first_other d tables) (Some t) ≡ Some table → FirstOther d (t ∷ tables) table
 other_step d t tables table h true q e = other_behind d t tables table (has_from d t q) (h e)

@@ -1,4 +1,4 @@
--- When the bytes of a file are a message, and when each refusal comes, in the words of the encoding and of the schema.
+-- When the bytes of a file are a message, and when each refusal comes, in the terms of the encoding and of the schema.
 use Rattle.std.specs.Prelude.{◌≡◌, ℕ, ℤ, ◌≤◌, ◌<◌, List, ◌∷◌, ◌++◌, length}
 use Rattle.schema.specs.Each.{Each}
 use Rattle.schema.specs.MessageFault.{HasFault}

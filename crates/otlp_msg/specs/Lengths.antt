@@ -1,6 +1,6 @@
 -- The code's table lengths by table.
 use Rattle.std.specs.Prelude.{ℕ, get_or, ◌==◌, if◌then◌else◌}
-use Rattle.pb_wire.specs.Tables.{place_of, table_of}
+use Rattle.pb_wire.specs.TableKinds.{place_of, table_of}
 use Rattle.pb_wire.specs.declared.table_kind.TableKind.{TableKind}
 use Rattle.otlp_msg.specs.declared.table_lengths.TableLengths.{TableLengths}
 

@@ -5,7 +5,7 @@ use Rattle.schema.specs.Fault.{Fault}
 use Rattle.schema.specs.Merge.{merge}
 use Rattle.schema.specs.Messages.{envelope, resource_profiles, scope_profiles, profile, dictionary}
 use Rattle.schema.specs.Shape.{Value, empty}
-use Rattle.schema.specs.Steps.{◌>>=◌}
+use Rattle.schema.specs.Decoding.{◌>>=◌}
 use Rattle.pb_wire.specs.declared.fault.Reason.{Reason}
 use Rattle.pb_wire.specs.declared.fault.Reason.TheVariants as reasons
 use Rattle.pb_wire.specs.declared.table_kind.TableKind.{TableKind}
@@ -74,7 +74,7 @@ tested (Err f) = Err (refusal_at f.place f.reason)
 abbrev pub message_of : List ℕ → Result Message Refusal
 message_of body = if nat_lt message_limit (length body) then Err (Size (length body)) else tested (merge envelope (empty envelope) 0 body)
 
--- the refusal is the one that is wanted, or memory was wanting
+-- the refusal is the one that is wanted, or out of memory
 abbrev pub IsRefusal : {T : Type 0} → Result T Refusal → Refusal → Type 0
 IsRefusal want (Size len) = want ≡ Err (Size len)
 IsRefusal want (Wire fault) = want ≡ Err (Wire fault)

@@ -49,7 +49,7 @@ holder_text (holder.Sample pos sample) = pos_text pos ++ (codes " sample " ++ de
 holder_text (holder.PeriodType pos) = pos_text pos ++ codes " period type"
 holder_text (holder.Profile pos) = pos_text pos
 
--- where an index stands
+-- where an index is
 abbrev pub path_text : Path → List ℕ
 path_text path = holder_text path.holder ++ (codes " field " ++ (decimal path.field ++ (codes " item " ++ decimal path.item)))
 

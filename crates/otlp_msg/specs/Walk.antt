@@ -1,10 +1,10 @@
--- The indexes of a message in the order of the walk, and where each stands. (opentelemetry-proto,
+-- The indexes of a message in the order of the walk, and where each is. (opentelemetry-proto,
 -- `profiles/v1development/profiles.proto`, says of each index field which table it points into.)
 use Rattle.std.specs.Prelude.{ℕ, suc, ℤ, pos, negsuc, List, [], ◌∷◌, ◌++◌, length, Bool, false, nat_lt, ◌==◌, if◌then◌else◌, Result, Ok, Err}
 use Rattle.schema.specs.Messages.{mapping, location, function, attribute, stack, profile, scope_profiles, resource_profiles, dictionary, entries_in, envelope}
 use Rattle.schema.specs.Shape.{Shape, Index, One, Many, Value, Table, Mappings, Locations, Functions, Links, Strings, Attributes, Stacks}
 use Rattle.meaning.specs.Canonical.{IsIndex}
-use Rattle.pb_wire.specs.Tables.{table_of}
+use Rattle.pb_wire.specs.TableKinds.{table_of}
 use Rattle.pb_wire.specs.declared.table_kind.TableKind.{TableKind}
 use Rattle.pb_wire.specs.declared.table_kind.TableKind.TheVariants as kind
 use Rattle.otlp_msg.specs.declared.path.Holder.{Holder}
@@ -23,7 +23,7 @@ kind_of Strings = kind.String
 kind_of Attributes = kind.Attribute
 kind_of Stacks = kind.Stack
 
--- an index, the table that it points into, and where it stands
+-- an index, the table that it points into, and where it is
 pub record Spot : Type 0 where
   pub table : TableKind
   pub index : ℤ
@@ -35,7 +35,7 @@ spot table index holder field item = record { table = table; index = index; path
 
 -- ---- the walk
 
--- who holds the indexes of the message that stands in a field of another one, at a place of the field's list
+-- who holds the indexes of the message that is in a field of another one, at a place of the field's list
 abbrev pub entered : Holder → ℕ → ℕ → Holder
 entered (holder.Location entry) field item = if field == 3 then holder.Line entry item else holder.Location entry
 entered (holder.Profile profile) field item =
@@ -55,7 +55,7 @@ abbrev pub each_spots : {A : Type 0} → (ℕ → A → List Spot) → ℕ → L
 each_spots spots_of i [] = []
 each_spots spots_of i (x ∷ xs) = spots_of i x ++ each_spots spots_of (suc i) xs
 
--- The indexes of a message: fields by ascending number, elements in order. What stands behind an index is not entered.
+-- The indexes of a message: fields by ascending number, elements in order. The entry that an index names is not entered.
 abbrev pub spots : (s : Shape) → Holder → Value s → List Spot
 spots (One n k rest) by v = row_spots k by n 0 (spots k) v.0 ++ spots rest by v.1
 spots (Many n k rest) by v = each_spots (λ i. row_spots k by n i (spots k)) 0 v.0 ++ spots rest by v.1

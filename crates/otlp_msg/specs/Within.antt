@@ -4,7 +4,7 @@ use Rattle.std.specs.Prelude.{ℕ, suc, ◌<◌, ◌^◌, List, [], ◌∷◌, l
 use Rattle.schema.specs.Each.{Each}
 use Rattle.schema.specs.Shape.{Shape, Index, One, Many, Value}
 use Rattle.schema.specs.Spell.{spell}
-use Rattle.schema.specs.Steps.{◌>>=◌}
+use Rattle.schema.specs.Decoding.{◌>>=◌}
 use Rattle.pb_wire.specs.declared.table_kind.TableKind.{TableKind}
 use Rattle.otlp_msg.specs.declared.path.Holder.{Holder}
 use Rattle.otlp_msg.specs.declared.refusal.Refusal.{Refusal}

@@ -5,7 +5,7 @@ use Rattle.schema.specs.Messages.{dictionary, entries_in, entry}
 use Rattle.schema.specs.Shape.{Shape, Value, empty}
 use Rattle.meaning.specs.Meaning.{blank}
 use Rattle.meaning.specs.Tree.{tree, same}
-use Rattle.pb_wire.specs.Tables.{table_of}
+use Rattle.pb_wire.specs.TableKinds.{table_of}
 use Rattle.pb_wire.specs.declared.table_kind.TableKind.{TableKind}
 use Rattle.pb_wire.specs.declared.table_kind.TableKind.TheVariants.{Mapping, Location, Function, Link, String, Attribute, Stack}
 

@@ -9,7 +9,7 @@ ghost use Rattle.otlp_msg.specs.Views.{message_view};
 use crate::Message;
 use crate::counts::{profiles_in_resources, samples_in_resources};
 
-/// A message that was accepted, beside the bytes that it was read from.
+/// A message that was accepted, with the bytes that it was read from.
 #[derive(Debug, Drop)]
 pub struct Checked<'a> {
     pub(crate) body: &'a [u8],

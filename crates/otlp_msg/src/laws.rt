@@ -1,4 +1,4 @@
-//! What it means that bytes are a message, in the words of the encoding and of the schema. The law stands on a public
+//! What it means that bytes are a message, in the terms of the encoding and of the schema. The law is the contract of a public
 //! function with no body; its lemmas are in `proofs/`.
 ghost use Rattle.std.specs.Prelude.{◌≡◌, ◌↔◌, ◌<◌, ◌≤◌, ℕ, ℤ, List, All, length, Ok, Err};
 ghost use Rattle.schema.specs.Fits.{Fits};

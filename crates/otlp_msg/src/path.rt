@@ -1,4 +1,4 @@
-//! Where an index stands in a message.
+//! Where an index is in a message.
 ghost use Rattle.std.specs.Prelude.{◌≡◌};
 ghost use Rattle.otlp_msg.specs.Walk.{entered, entry_holder};
 
@@ -27,7 +27,7 @@ pub enum Holder {
     Profile { pos: ProfilePos },
 }
 
-/// Where an index stands: its holder, the number of its field, and its place in that field's list, 0 in a singular field.
+/// Where an index is: its holder, the number of its field, and its place in that field's list, 0 in a singular field.
 #[derive(Clone, Copy, Debug, PartialEq, Eq)]
 pub struct Path {
     pub holder: Holder,
@@ -49,7 +49,7 @@ impl Holder {
         }
     }
 
-    /// The holder of the message that stands in a field of this one, at a place of the field's list.
+    /// The holder of the message that is in a field of this one, at a place of the field's list.
     pub(crate) fn entered(self, field: u32, item: u32) -> Holder
         ensures { result ≡ entered self field item }
     {

@@ -20,7 +20,7 @@ pub fn read_message<'a>(alloc: Global, body: &'a [u8]) -> Result<Checked<'a>, Re
     ensures body { IfOk result (λ c. body_of c ≡ body.now) }
     ensures ok { IfOk result (λ c. message_of body.now ≡ Ok (value_of c)) }
     ensures refused { IfErr result (IsRefusal (message_of body.now)) }
-    // The same in the words of the encoding and of the schema.
+    // The same in the terms of the encoding and of the schema.
     ensures accepted { IfOk result (λ c. IsAccepted body.now (value_of c)) }
     ensures why { IfErr result (IsRefusedFor body.now) }
 {

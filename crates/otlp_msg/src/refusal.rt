@@ -91,7 +91,7 @@ fn dangling_text(
     Ok(Text::from_string(text))
 }
 
-// Where an index stands.
+// Where an index is.
 fn path_text(alloc: Global, path: Path) -> Result<Text, NoMemory>
     ensures { IfOk result (λ t. t ≡ text_of_path path) }
 {
@@ -136,7 +136,7 @@ fn line_text(alloc: Global, location: u32, line: u32) -> Result<Text, NoMemory>
     Ok(Text::from_string(text))
 }
 
-// A profile, or a part of it, whose name comes behind.
+// A profile, or a part of it, whose name comes after.
 fn part_text(alloc: Global, pos: ProfilePos, part: &str) -> Result<Text, NoMemory>
     ensures { IfOk result (λ t. t ≡ pos_text pos ++ part.now) }
 {

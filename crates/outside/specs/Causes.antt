@@ -3,7 +3,7 @@ use Rattle.std.specs.Prelude.{◌≡◌, ◌≤◌, ◌+◌, ◌-◌, ◌^◌, �
 use Rattle.outside.specs.declared.fault.IoFault.{IoFault}
 use Rattle.outside.specs.declared.fault.IoFault.TheVariants.{Failed, NoMemory}
 
--- the count has not fallen, and it has risen unless it stands at its type's end
+-- the count has not fallen, and it has risen unless it is at its type's end
 abbrev pub Rose : ℕ → ℕ → Type 0
 Rose before now = (before ≤ now) × (min (before + 1) (2 ^ 64 - 1) ≤ now)
 
@@ -17,7 +17,7 @@ Counted before now (Ok _) = now ≡ before
 Counted before now (Err Failed) = Rose before now
 Counted before now (Err NoMemory) = now ≡ before
 
--- the call did not fail; memory may have been wanting
+-- the call did not fail; it may have been out of memory
 abbrev pub NeverFails : {T : Type 0} → Result T IoFault → Type 0
 NeverFails (Ok _) = Unit {0}
 NeverFails (Err Failed) = ⊥

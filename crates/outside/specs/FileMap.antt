@@ -19,15 +19,15 @@ abbrev pub got_of : FileMap → List ℕ → ℕ → Got
 got_of m name limit = found (get m name) limit
 
 -- whole bytes are at most the limit, and a long file has at least one more
-abbrev pub IsWithin : ℕ → Got → Type 0
-IsWithin limit (Whole bytes) = length bytes ≤ limit
-IsWithin limit (Long at_least) = at_least ≡ limit + 1
-IsWithin limit Missing = Unit {0}
+abbrev pub IsWithinLimit : ℕ → Got → Type 0
+IsWithinLimit limit (Whole bytes) = length bytes ≤ limit
+IsWithinLimit limit (Long at_least) = at_least ≡ limit + 1
+IsWithinLimit limit Missing = Unit {0}
 
 -- the map with these bytes under the name, where a map is told
-abbrev pub written : List ℕ → List ℕ → Option FileMap → Option FileMap
-written name bytes None = None
-written name bytes (Some m) = Some (insert m name bytes)
+abbrev pub with_file : List ℕ → List ℕ → Option FileMap → Option FileMap
+with_file name bytes None = None
+with_file name bytes (Some m) = Some (insert m name bytes)
 
 -- the maps agree at every other name, and one is told exactly where the other is
 abbrev pub SameBut : List ℕ → Option FileMap → Option FileMap → Type 0

@@ -1,6 +1,6 @@
 //! The files of the system.
 ghost use Rattle.std.specs.Prelude.{◌≡◌, ◌+◌, None, IfOk, refl};
-ghost use Rattle.outside.specs.FileMap.{IsWithin};
+ghost use Rattle.outside.specs.FileMap.{IsWithinLimit};
 
 use crate::fault::count_failure;
 use crate::{Files, Got, IoFault};
@@ -10,7 +10,7 @@ use std::fs::File;
 use std::io::{ErrorKind, Read};
 use std::{fs, io};
 
-/// Real files, named by their paths. It tells its counts of faults and no more.
+/// Real files, named by their paths. Its contract tells its counts of faults and no more.
 #[derive(Drop)]
 pub struct DiskFiles<'a, R: std::rt::Files> {
     rt: &'a R,
@@ -83,7 +83,7 @@ impl<'a, R: std::rt::Files> Files for DiskFiles<'a, R> {
 
 // Opens the file and reads at most one byte more than the limit.
 fn found<R: std::rt::Files>(rt: &R, alloc: Global, name: &str, limit: u64) -> io::Result<Got>
-    ensures { IfOk result (IsWithin limit) }
+    ensures { IfOk result (IsWithinLimit limit) }
 {
     let file = match File::open(rt, name) {
         Ok(file) => file,

@@ -1,8 +1,8 @@
 //! Named files.
 ghost use Rattle.std.specs.Prelude.{◌≡◌, ◌+◌, ℕ, List, Option, None, IfOk, IfSome, OnOk, IsErrOf};
 ghost use Rattle.outside.specs.Causes.{Counted, NeverFails};
-ghost use Rattle.outside.specs.FileMap.{FileMap, got_of, IsWithin, written, SameBut};
-ghost use Rattle.outside.specs.Plan.{Plan, FollowsPlan};
+ghost use Rattle.outside.specs.FileMap.{FileMap, got_of, IsWithinLimit, with_file, SameBut};
+ghost use Rattle.outside.specs.FailurePlan.{FailurePlan, FollowsPlan};
 
 use crate::IoFault;
 use pb_wire::Blob;
@@ -47,12 +47,12 @@ pub trait Files {
     ghost sound: { Self → Type 0 };
 
     /// Which calls are to fail, where it is told.
-    ghost plan: { Self → Option Plan } = { λ _. None };
+    ghost plan: { Self → Option FailurePlan } = { λ _. None };
 
     /// The bytes under a name, if there are at most `limit`. A missing name is no failure.
     fn read(&mut self, alloc: Global, name: &str, limit: u64) -> Result<Got, IoFault>
         ensures got { IfOk result (λ got. IfSome (told self.old) (λ m. got ≡ got_of m name.now limit)) }
-        ensures within { IfOk result (IsWithin limit) }
+        ensures within { IfOk result (IsWithinLimit limit) }
         ensures same { told self.new ≡ told self.old }
         ensures cause { Counted (read_faults self.old) (read_faults self.new) result }
         ensures writes { write_faults self.new ≡ write_faults self.old }
@@ -63,7 +63,7 @@ pub trait Files {
     /// Puts the bytes under the name, in the place of those that were there. After a failure nothing is told of the
     /// bytes under this name.
     fn write(&mut self, alloc: Global, name: &str, bytes: &[u8]) -> Result<(), IoFault>
-        ensures ok { OnOk result (told self.new ≡ written name.now bytes.now (told self.old)) }
+        ensures ok { OnOk result (told self.new ≡ with_file name.now bytes.now (told self.old)) }
         ensures failed { IsErrOf result IoFault.Failed → SameBut name.now (told self.old) (told self.new) }
         ensures no_memory { IsErrOf result IoFault.NoMemory → told self.new ≡ told self.old }
         ensures cause { Counted (write_faults self.old) (write_faults self.new) result }

@@ -5,7 +5,7 @@ use crate::fault::count_failure;
 use crate::{Failed, Source};
 use std::io::Read;
 
-/// Reads from a reader. It tells its count of faults and no more.
+/// Reads from a reader. Its contract tells its count of faults and no more.
 #[derive(Drop)]
 pub struct ReaderSource<R> {
     inner: R,

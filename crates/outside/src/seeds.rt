@@ -9,7 +9,7 @@ use std::hash::{BuildHasher, BuildHasherDefault, FoldHasher};
 pub trait Seeds {
     type H: BuildHasher + Drop;
 
-    /// A hasher, or want of memory. Its seed is left open.
+    /// A hasher, or out of memory. Its seed is left open.
     fn hasher(&mut self) -> Result<Self::H, NoMemory>;
 }
 

@@ -1,8 +1,8 @@
 //! Where bytes are written.
 ghost use Rattle.std.specs.Prelude.{◌≡◌, ◌≤◌, ◌<◌, ℕ, List, Option, None, IfOk, OnOk, OnErr, IsErrOf, take, length};
 ghost use Rattle.outside.specs.Causes.{Counted, NeverFails};
-ghost use Rattle.outside.specs.Told.{appended, TookPrefix};
-ghost use Rattle.outside.specs.Plan.{Plan, FollowsPlan};
+ghost use Rattle.outside.specs.Streams.{appended, TookPrefix};
+ghost use Rattle.outside.specs.FailurePlan.{FailurePlan, FollowsPlan};
 
 use crate::IoFault;
 
@@ -18,10 +18,10 @@ pub trait Sink {
     ghost sound: { Self → Type 0 };
 
     /// Which calls are to fail, where it is told.
-    ghost plan: { Self → Option Plan } = { λ _. None };
+    ghost plan: { Self → Option FailurePlan } = { λ _. None };
 
     /// Takes bytes from the front of the piece, and answers how many: at least one where there is one, and 0 of an
-    /// empty piece. After a failure or want of memory none was taken.
+    /// empty piece. After a failure, or when out of memory, none was taken.
     fn write(&mut self, piece: &[u8]) -> Result<usize, IoFault>
         ensures most { IfOk result (λ n. n ≤ length piece.now) }
         ensures some { IfOk result (λ n. 0 < length piece.now → 0 < n) }
@@ -32,7 +32,7 @@ pub trait Sink {
         ensures planned { FollowsPlan (plan self.old) (plan self.new) (IsErrOf result IoFault.Failed) };
 }
 
-/// Writes all of the text. After a failure or want of memory a part from its front was taken, but not all.
+/// Writes all of the text. After a failure, or when out of memory, a part from its front was taken, but not all.
 pub fn put_all<S: Sink>(sink: &mut S, text: &[u8]) -> Result<(), IoFault>
     ensures ok { OnOk result (S.taken sink.new ≡ appended (S.taken sink.old) text.now) }
     ensures refused { OnErr result (TookPrefix text.now (S.taken sink.old) (S.taken sink.new)) }

@@ -1,8 +1,8 @@
 //! Where bytes are read.
 ghost use Rattle.std.specs.Prelude.{◌≡◌, ◌≤◌, ◌<◌, ℕ, List, Option, None, IfOk, OnOk, OnErr, IsOk, IsErr, length};
 ghost use Rattle.outside.specs.Causes.{Rose};
-ghost use Rattle.outside.specs.Told.{Moved, EndsAtZero};
-ghost use Rattle.outside.specs.Plan.{Plan, FollowsPlan};
+ghost use Rattle.outside.specs.Streams.{ReadInto, EndsAtZero};
+ghost use Rattle.outside.specs.FailurePlan.{FailurePlan, FollowsPlan};
 
 use crate::Failed;
 
@@ -18,13 +18,13 @@ pub trait Source {
     ghost sound: { Self → Type 0 };
 
     /// Which calls are to fail, where it is told.
-    ghost plan: { Self → Option Plan } = { λ _. None };
+    ghost plan: { Self → Option FailurePlan } = { λ _. None };
 
     /// Moves bytes from the front of those left to the front of `into`, and answers how many. Where there is room, it is 0
-    /// at the end alone. What stands in `into` behind them is left open, and after a failure all that stands there.
+    /// at the end alone. What `into` holds after them is left open, and after a failure all of it is.
     fn read(&mut self, into: &mut [u8]) -> Result<usize, Failed>
         ensures most { IfOk result (λ n. n ≤ length into.old) }
-        ensures moved { IfOk result (λ n. Moved n into.new (left self.old) (left self.new)) }
+        ensures moved { IfOk result (λ n. ReadInto n into.new (left self.old) (left self.new)) }
         ensures end { IfOk result (λ n. 0 < length into.old → EndsAtZero n (left self.old)) }
         ensures failed { OnErr result (left self.new ≡ left self.old) }
         ensures counted { OnErr result (Rose (faults self.old) (faults self.new)) }

@@ -1,5 +1,5 @@
 //! Hashers with a seed of the system.
-ghost use Rattle.outside.specs.Seeded.{initial_hasher};
+ghost use Rattle.outside.specs.SystemHashers.{initial_hasher};
 
 use crate::Seeds;
 use pb_wire::NoMemory;

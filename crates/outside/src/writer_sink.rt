@@ -5,7 +5,7 @@ use crate::fault::count_failure;
 use crate::{IoFault, Sink};
 use std::io::{ErrorKind, Write};
 
-/// Writes to a writer, such as standard output, and flushes nothing. It tells its count of faults and no more.
+/// Writes to a writer, such as standard output, and flushes nothing. Its contract tells its count of faults and no more.
 #[derive(Drop)]
 pub struct WriterSink<W> {
     inner: W,

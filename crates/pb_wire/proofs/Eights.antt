@@ -5,14 +5,14 @@ use Rattle.std.specs.Int.{w64, from_le_bytes}
 use Rattle.std.proofs.lemmas.Bool.{eq-eqb}
 use Rattle.std.proofs.lemmas.List.{take-append-drop}
 use Rattle.schema.specs.Merge.{packed_fixed, more_packed_fixed}
-use Rattle.schema_laws.proofs.Fixed.{fixed_front}
+use Rattle.schema_laws.proofs.FixedNumbers.{fixed_front}
 use Rattle.schema_laws.proofs.Rows.{fixed_nothing}
 
 -- fewer than eight bytes are no number
 pub fixed_none : (bytes : List ℕ) → length bytes < 8 → packed_fixed bytes ≡ []
 fixed_none bytes few = fixed_nothing bytes (omega arith)
 
--- the numbers behind those so far, one step on
+-- the numbers after those so far, one step on
 pub eight_goes_on : (slot added rest front after whole : List ℕ) → front ≡ take 8 rest → after ≡ drop 8 rest → length after + 8 ≡ length rest → added ≡ slot ++ from_le_bytes w64 front ∷ []
     → slot ++ packed_fixed rest ≡ whole → added ++ packed_fixed after ≡ whole
 eight_goes_on slot added rest front after whole f g n a h =

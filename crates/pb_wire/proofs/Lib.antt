@@ -2,7 +2,7 @@ pub mod Merge
 pub mod Parts
 pub mod Occurrences
 pub mod Eights
-pub mod Begins
+pub mod Prefixes
 pub mod Rows
 pub mod Utf8
-pub mod Typed
+pub mod Types

@@ -3,7 +3,7 @@ use Rattle.std.proofs.Common.{◌≡◌, ℕ, ◌<◌, true, false, List, [], �
 use Rattle.std.specs.Prelude.{◌==◌}
 use Rattle.std.proofs.lemmas.Bool.{eqb-true}
 use Rattle.schema.specs.Fault.{Fault}
-use Rattle.schema.specs.Steps.{◌>>=◌}
+use Rattle.schema.specs.Decoding.{◌>>=◌}
 use Rattle.pb_wire.specs.declared.fault.ReadFault.{ReadFault}
 use Rattle.pb_wire.specs.declared.fault.ReadFault.TheVariants as errors
 use Rattle.pb_wire.specs.Answers.{IsFault}

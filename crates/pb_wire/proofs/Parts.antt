@@ -3,11 +3,11 @@ use Rattle.std.proofs.Common.{◌≡◌, ℕ, ◌+◌, ◌<◌, ◌≤◌, List,
 use Rattle.std.proofs.lemmas.List.{drop_more, drop_all}
 use Rattle.schema.specs.Merge.{merge, merge_all}
 use Rattle.schema.specs.Shape.{Shape, Value}
-use Rattle.schema.specs.Steps.{◌>>=◌}
+use Rattle.schema.specs.Decoding.{◌>>=◌}
 use Rattle.pb_wire.specs.declared.pieces.Piece.{Piece}
 use Rattle.pb_wire.specs.Parts.{part_view}
 
--- the next part, and those behind it
+-- the next part, and those after it
 pub next_part : (s : Shape) (v : Value s) (items : List Piece) (i : ℕ) (d : Piece) → i < length items
     → merge_all s v (map part_view (drop i items))
     ≡ (merge s v (get_or items i d).base (get_or items i d).bytes.now >>= λ w. merge_all s w (map part_view (drop (i + 1) items)))

@@ -2,7 +2,7 @@
 use Rattle.std.specs.Prelude.{◌≡◌, ℕ, ◌+◌, ◌<◌, ◌≤◌, ◌++◌, List, length, drop, Result, Ok, Err, Option, Some, None}
 use Rattle.schema.specs.Fault as faults
 use Rattle.schema.specs.Fault.{Fault}
-use Rattle.schema.specs.Steps.{field_at}
+use Rattle.schema.specs.Decoding.{field_at}
 use Rattle.pb_wire.specs.declared.fault.Reason.{Reason}
 use Rattle.pb_wire.specs.declared.fault.ReadFault.{ReadFault}
 use Rattle.pb_wire.specs.declared.fault.ReadFault.TheVariants.{Wire, NoMemory}
@@ -15,12 +15,12 @@ abbrev pub Gives : {X Y : Type 0} → (X → Y) → Result X Reason → Result Y
 Gives view (Ok x) want = want ≡ Ok (view x)
 Gives view (Err reason) want = want ≡ Err (reason_view reason)
 
--- the fault is the one that is wanted, or memory was wanting
+-- the fault is the one that is wanted, or out of memory
 abbrev pub IsFault : {S : Type 0} → ReadFault → Result S Fault → Type 0
 IsFault NoMemory want = Unit {0}
 IsFault (Wire f) want = want ≡ Err (fault_view f)
 
--- memory was not wanting
+-- the call was not out of memory
 abbrev pub TakesNone : {A : Type 0} → Result A ReadFault → Type 0
 TakesNone (Ok a) = Unit {0}
 TakesNone (Err NoMemory) = ⊥
@@ -38,13 +38,9 @@ Took new (Err e) want = IsFault e want
 
 -- One step over the fields of a body: nothing at its end, else the field that begins there, where it lies and where the
 -- next begins, else what is bad there.
-abbrev pub Steps : ℕ → ℕ → List ℕ → Result (Option (Field × ℕ)) WireFault → Type 0
-Steps base at body (Ok None) = at ≡ length body
-Steps base at body (Ok (Some x)) =
+abbrev pub FindsNext : ℕ → ℕ → List ℕ → Result (Option (Field × ℕ)) WireFault → Type 0
+FindsNext base at body (Ok None) = at ≡ length body
+FindsNext base at body (Ok (Some x)) =
     (at < x.1) × (x.1 ≤ length body) × (x.0.at ≡ base + at) × (x.0.end ≡ base + x.1)
     × (field_at (drop at body) ≡ Ok (field_view x.0, drop x.1 body))
-Steps base at body (Err f) = (at < length body) × (f.place ≡ base + at) × (field_at (drop at body) ≡ Err (reason_view f.reason))
-
--- the bytes so far stay in front
-abbrev pub Begins : List ℕ → List ℕ → Type 0
-Begins old new = new ≡ old ++ drop (length old) new
+FindsNext base at body (Err f) = (at < length body) × (f.place ≡ base + at) × (field_at (drop at body) ≡ Err (reason_view f.reason))

@@ -1,4 +1,4 @@
 pub mod View
 pub mod Answers
 pub mod Parts
-pub mod Tables
+pub mod TableKinds

@@ -1,11 +1,11 @@
 //! The rows of a message that hold indexes: their lengths in bytes, and writing them with new indexes. After an error a part of
-//! the row may stand at the end of `out`.
+//! the row may be at the end of `out`.
 ghost use Rattle.std.specs.Prelude.{◌≡◌, ◌<◌, ◌^◌, ◌++◌, length, map, OnOk, OnErr};
 ghost use Rattle.schema.specs.Each.{Each};
 ghost use Rattle.schema.specs.Shape.{I32};
 ghost use Rattle.schema.specs.Texts.{FitsNumber, bytes_field, number_field, number_to, numbers_text};
-ghost use Rattle.pb_wire.specs.Answers.{Begins};
-ghost use Rattle.pb_wire.specs.Tables.{table_of};
+ghost use Rattle.schema.specs.Prefix.{IsPrefix};
+ghost use Rattle.pb_wire.specs.TableKinds.{table_of};
 
 use crate::put::{push_varint, varint_len};
 use crate::put_rows::put_number;
@@ -31,7 +31,7 @@ pub fn put_index<I: NewIndexes>(
 ) -> Result<(), NoMemory>
     requires { number < 2 ^ 29 }
     ensures ok { OnOk result (out.new ≡ out.old ++ number_field number (number_to I32 (I.to indexes.now (table_of table) index.now))) }
-    ensures err { OnErr result (Begins out.old out.new) }
+    ensures err { OnErr result (IsPrefix out.old out.new) }
     ensures typed { OnOk result (FitsNumber I32 index.now) }
 {
     let _old = *index;
@@ -76,7 +76,7 @@ pub fn indexes_len<I: NewIndexes>(number: u32, table: TableKind, items: &[i32], 
 }
 
 /// Puts the varints of new indexes.
-#[tactic(auto, using(crate::proofs::Typed::each_next, crate::proofs::Begins::growing))]
+#[tactic(auto, using(crate::proofs::Types::each_next, crate::proofs::Prefixes::growing))]
 fn push_packed<I: NewIndexes>(
     out: &mut Blob,
     table: TableKind,
@@ -84,7 +84,7 @@ fn push_packed<I: NewIndexes>(
     indexes: &I,
 ) -> Result<(), NoMemory>
     ensures ok { OnOk result (out.new ≡ out.old ++ numbers_text I32 (map (I.to indexes.now (table_of table)) (map (λ i. i) items.now))) }
-    ensures err { OnErr result (Begins out.old out.new) }
+    ensures err { OnErr result (IsPrefix out.old out.new) }
     ensures typed { OnOk result (Each (FitsNumber I32) (map (λ i. i) items.now)) }
 {
     for item in items {
@@ -95,8 +95,8 @@ fn push_packed<I: NewIndexes>(
     Ok(())
 }
 
-/// Puts the new indexes, unless there are none, packed behind one tag and length.
-#[tactic(auto, using(crate::proofs::Begins::growing, schema_laws::proofs::Onto::long_onto, schema_laws::proofs::Lengths::bytes_field_le, crate::proofs::Rows::left_out, crate::proofs::Rows::bytes_some))]
+/// Puts the new indexes, unless there are none, packed after one tag and length.
+#[tactic(auto, using(crate::proofs::Prefixes::growing, schema_laws::proofs::Onto::long_onto, schema_laws::proofs::Lengths::bytes_field_le, crate::proofs::Rows::left_out, crate::proofs::Rows::bytes_some))]
 pub fn put_indexes<I: NewIndexes>(
     out: &mut Blob,
     number: u32,
@@ -107,7 +107,7 @@ pub fn put_indexes<I: NewIndexes>(
     requires below { number < 2 ^ 29 }
     requires room { length (bytes_field number (numbers_text I32 (map (I.to indexes.now (table_of table)) (map (λ i. i) items.now)))) < 2 ^ 63 }
     ensures ok { OnOk result (out.new ≡ out.old ++ bytes_field number (numbers_text I32 (map (I.to indexes.now (table_of table)) (map (λ i. i) items.now)))) }
-    ensures err { OnErr result (Begins out.old out.new) }
+    ensures err { OnErr result (IsPrefix out.old out.new) }
     ensures typed { OnOk result (Each (FitsNumber I32) (map (λ i. i) items.now)) }
 {
     let len = packed_len(table, items, indexes);

@@ -1,7 +1,7 @@
 //! What becomes of indexes when a record is written.
 ghost use Rattle.std.specs.Prelude.{◌≡◌, ℤ};
 ghost use Rattle.schema.specs.Shape.{Table};
-ghost use Rattle.pb_wire.specs.Tables.{table_of};
+ghost use Rattle.pb_wire.specs.TableKinds.{table_of};
 
 use crate::TableKind;
 
@@ -14,7 +14,7 @@ pub trait NewIndexes {
         ensures { result ≡ to self.now (table_of table) index.now };
 }
 
-/// Each index is written as it stands.
+/// Each index is written as it is.
 #[derive(Clone, Copy, Debug)]
 pub struct AsTheyStand;
 

@@ -7,7 +7,7 @@ ghost use Rattle.schema.specs.Spell.{spell};
 use crate::put::varint_len;
 use crate::{Blob, NewIndexes, Number, Text, Wire};
 
-/// The length of a tag, of a length, and of the bytes behind them.
+/// The length of a tag, of a length, and of the bytes after them.
 #[inline]
 pub fn long_len(number: u32, len: u64) -> u64
     requires below { number < 2 ^ 29 }
@@ -117,7 +117,7 @@ pub fn numbers_len<N: Number>(number: u32, items: &[N]) -> u64
 
 /// The length of the row of packed eight-byte values.
 #[inline]
-#[tactic(auto, using(schema_laws::proofs::Lengths::bytes_field_le, crate::proofs::Rows::bytes_none, crate::proofs::Rows::bytes_some, schema_laws::proofs::Onto::long_len, schema_laws::proofs::Fixed::fixed_len))]
+#[tactic(auto, using(schema_laws::proofs::Lengths::bytes_field_le, crate::proofs::Rows::bytes_none, crate::proofs::Rows::bytes_some, schema_laws::proofs::Onto::long_len, schema_laws::proofs::FixedNumbers::fixed_len))]
 pub fn fixed_list_len(number: u32, items: &[u64]) -> u64
     requires below { number < 2 ^ 29 }
     requires room { length (bytes_field number (fixed_text items.now)) < 2 ^ 63 }

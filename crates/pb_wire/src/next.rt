@@ -1,7 +1,7 @@
 //! The fields of a body, one after the other.
 ghost use Rattle.std.specs.Prelude.{◌≡◌, ◌+◌, ◌<◌, ◌≤◌, ◌^◌, length};
-ghost use Rattle.schema.specs.Steps.{varint_at, bytes_at, payload_at, field_at};
-ghost use Rattle.pb_wire.specs.Answers.{Gives, Steps};
+ghost use Rattle.schema.specs.Decoding.{varint_at, bytes_at, payload_at, field_at};
+ghost use Rattle.pb_wire.specs.Answers.{Gives, FindsNext};
 ghost use Rattle.pb_wire.specs.View.{payload_view, front_view};
 
 use crate::{Field, Payload, Reason, WireFault};
@@ -53,7 +53,7 @@ fn bytes(len: u64, from: &[u8]) -> Result<(&[u8], &[u8]), Reason>
 
 // The payload of a wire type at the front, and what follows it.
 #[inline(always)]
-#[tactic(auto, unfolding(schema::specs::Steps::payload_at))]
+#[tactic(auto, unfolding(schema::specs::Decoding::payload_at))]
 fn payload(kind: u64, from: &[u8]) -> Result<(Payload<'_>, &[u8]), Reason>
     ensures { Gives (λ x. (payload_view x.0, x.1.now)) result (payload_at kind from.now) }
 {
@@ -90,7 +90,7 @@ pub(crate) struct Front<'a> {
 
 /// The field at the front of bytes, and what follows it.
 #[inline(always)]
-#[tactic(auto, unfolding(schema::specs::Steps::field_at))]
+#[tactic(auto, unfolding(schema::specs::Decoding::field_at))]
 pub(crate) fn front_field(bytes: &[u8]) -> Result<(Front<'_>, &[u8]), Reason>
     ensures { Gives (λ x. (front_view x.0, x.1.now)) result (field_at bytes.now) }
 {
@@ -115,7 +115,7 @@ pub fn next_field<'a>(
 ) -> Result<Option<(Field<'a>, usize)>, WireFault>
     requires inside { at ≤ length body.now }
     requires below { base + length body.now < 2 ^ 63 }
-    ensures { Steps base at body.now result }
+    ensures { FindsNext base at body.now result }
 {
     if at == body.len() {
         return Ok(None);

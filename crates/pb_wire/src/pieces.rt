@@ -42,7 +42,7 @@ impl<'a> Pieces<'a> {
         }
     }
 
-    /// Puts a piece at the end. After want of memory the list is as before.
+    /// Puts a piece at the end. When out of memory, the list is as before.
     pub fn add(&mut self, piece: Piece<'a>) -> Result<(), NoMemory>
         requires { piece.base + length piece.bytes.now < 2 ^ 63 }
         ensures ok { OnOk result (self.new ≡ self.old ++ part_view piece.entry ∷ []) }

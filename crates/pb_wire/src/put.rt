@@ -1,7 +1,7 @@
 //! Writing varints and single fields.
 ghost use Rattle.std.specs.Prelude.{◌≡◌, ◌+◌, ◌*◌, ◌<◌, ◌≤◌, ◌^◌, ◌++◌, length, OnOk, OnErr};
 ghost use Rattle.schema.specs.Texts.{varint, long_field, field_text};
-ghost use Rattle.pb_wire.specs.Answers.{Begins};
+ghost use Rattle.schema.specs.Prefix.{IsPrefix};
 ghost use Rattle.pb_wire.specs.View.{payload_view};
 
 use crate::{Blob, NoMemory, Payload};
@@ -36,12 +36,12 @@ pub fn varint_len(value: u64) -> usize
     }
 }
 
-/// Puts the shortest varint at the end; after want of memory the bytes so far still stand in front.
+/// Puts the shortest varint at the end; when out of memory, the bytes so far are still in front.
 #[inline]
-#[tactic(auto, using(schema_laws::proofs::Onto::varint_small, schema_laws::proofs::Onto::varint_onto, crate::proofs::Begins::growing))]
+#[tactic(auto, using(schema_laws::proofs::Onto::varint_small, schema_laws::proofs::Onto::varint_onto, crate::proofs::Prefixes::growing))]
 pub(crate) fn push_varint(out: &mut Blob, value: u64) -> Result<(), NoMemory>
     ensures ok { OnOk result (out.new ≡ out.old ++ varint value) }
-    ensures err { OnErr result (Begins out.old out.new) }
+    ensures err { OnErr result (IsPrefix out.old out.new) }
 {
     let mut rest = value;
     while rest >= 128 {
@@ -67,26 +67,26 @@ pub fn put_varint(out: &mut Blob, value: u64) -> Result<(), NoMemory>
     Ok(())
 }
 
-/// Puts the tag and the length of a field of bytes at the end. After an error the bytes so far still stand in front.
+/// Puts the tag and the length of a field of bytes at the end. After an error the bytes so far are still in front.
 #[inline]
-#[tactic(auto, using(crate::proofs::Begins::growing))]
+#[tactic(auto, using(crate::proofs::Prefixes::growing))]
 pub fn put_head(out: &mut Blob, number: u32, len: u64) -> Result<(), NoMemory>
     requires { number < 2 ^ 29 }
     ensures ok { OnOk result (out.new ≡ (out.old ++ varint (number * 8 + 2)) ++ varint len) }
-    ensures err { OnErr result (Begins out.old out.new) }
+    ensures err { OnErr result (IsPrefix out.old out.new) }
 {
     push_varint(out, number as u64 * 8 + 2)?;
     push_varint(out, len)?;
     Ok(())
 }
 
-/// Puts a tag, a length and bytes at the end; after want of memory the bytes so far still stand in front.
+/// Puts a tag, a length and bytes at the end; when out of memory, the bytes so far are still in front.
 #[inline]
-#[tactic(auto, using(crate::proofs::Begins::growing), unfolding(schema::specs::Texts::long_field))]
+#[tactic(auto, using(crate::proofs::Prefixes::growing), unfolding(schema::specs::Texts::long_field))]
 pub(crate) fn push_long(out: &mut Blob, number: u32, bytes: &[u8]) -> Result<(), NoMemory>
     requires { number < 2 ^ 29 }
     ensures ok { OnOk result (out.new ≡ out.old ++ long_field number bytes.now) }
-    ensures err { OnErr result (Begins out.old out.new) }
+    ensures err { OnErr result (IsPrefix out.old out.new) }
 {
     push_varint(out, number as u64 * 8 + 2)?;
     push_varint(out, bytes.len() as u64)?;
@@ -94,12 +94,12 @@ pub(crate) fn push_long(out: &mut Blob, number: u32, bytes: &[u8]) -> Result<(),
     Ok(())
 }
 
-/// Puts a field at the end; after want of memory the bytes so far still stand in front.
-#[tactic(auto, using(crate::proofs::Begins::growing))]
+/// Puts a field at the end; when out of memory, the bytes so far are still in front.
+#[tactic(auto, using(crate::proofs::Prefixes::growing))]
 fn push_field(out: &mut Blob, number: u32, payload: &Payload<'_>) -> Result<(), NoMemory>
     requires { number < 2 ^ 29 }
     ensures ok { OnOk result (out.new ≡ out.old ++ field_text number (payload_view payload.now)) }
-    ensures err { OnErr result (Begins out.old out.new) }
+    ensures err { OnErr result (IsPrefix out.old out.new) }
 {
     match payload {
         Payload::Varint(value) => {

@@ -1,4 +1,4 @@
-//! Writing the rows of a message. After an error a part of the row may stand at the end of `out`.
+//! Writing the rows of a message. After an error a part of the row may be at the end of `out`.
 ghost use Rattle.std.specs.Prelude.{◌≡◌, ◌+◌, ◌*◌, ◌<◌, ◌≤◌, ◌^◌, ◌++◌, length, map, true, OnOk, OnErr};
 ghost use Rattle.std.specs.Str.{is_utf8};
 ghost use Rattle.schema.specs.Each.{Each};
@@ -6,7 +6,7 @@ ghost use Rattle.schema.specs.Moved.{moved};
 ghost use Rattle.schema.specs.Typed.{IsTyped};
 ghost use Rattle.schema.specs.Texts.{FitsNumber, varint, number_to, number_field, fixed_field, long_field, bytes_field, numbers_text, fixed_text, items_text};
 ghost use Rattle.schema.specs.Spell.{len_onto, spell};
-ghost use Rattle.pb_wire.specs.Answers.{Begins};
+ghost use Rattle.schema.specs.Prefix.{IsPrefix};
 
 use crate::lengths::packed_len;
 use crate::put::{push_long, push_varint};
@@ -14,11 +14,11 @@ use crate::{Blob, NewIndexes, NoMemory, Number, Text, Wire};
 
 /// Puts a number that is not 0.
 #[inline]
-#[tactic(auto, using(crate::proofs::Begins::growing), unfolding(schema::specs::Texts::number_field))]
+#[tactic(auto, using(crate::proofs::Prefixes::growing), unfolding(schema::specs::Texts::number_field))]
 pub fn put_number<N: Number>(out: &mut Blob, number: u32, value: N) -> Result<(), NoMemory>
     requires { number < 2 ^ 29 }
     ensures ok { OnOk result (out.new ≡ out.old ++ number_field number (number_to N.format (N.value value))) }
-    ensures err { OnErr result (Begins out.old out.new) }
+    ensures err { OnErr result (IsPrefix out.old out.new) }
     ensures typed { OnOk result (FitsNumber N.format (N.value value)) }
 {
     let value = value.to_varint();
@@ -32,11 +32,11 @@ pub fn put_number<N: Number>(out: &mut Blob, number: u32, value: N) -> Result<()
 
 /// Puts eight bytes, the low ones first, of a number that is not 0.
 #[inline]
-#[tactic(auto, using(crate::proofs::Begins::growing), unfolding(schema::specs::Texts::fixed_field))]
+#[tactic(auto, using(crate::proofs::Prefixes::growing), unfolding(schema::specs::Texts::fixed_field))]
 pub fn put_fixed(out: &mut Blob, number: u32, value: u64) -> Result<(), NoMemory>
     requires { number < 2 ^ 29 }
     ensures ok { OnOk result (out.new ≡ out.old ++ fixed_field number value) }
-    ensures err { OnErr result (Begins out.old out.new) }
+    ensures err { OnErr result (IsPrefix out.old out.new) }
     ensures typed { OnOk result (value < 2 ^ 64) }
 {
     if value == 0 {
@@ -49,11 +49,11 @@ pub fn put_fixed(out: &mut Blob, number: u32, value: u64) -> Result<(), NoMemory
 
 /// Puts bytes that are not empty.
 #[inline]
-#[tactic(auto, using(crate::proofs::Begins::growing), unfolding(schema::specs::Texts::bytes_field))]
+#[tactic(auto, using(crate::proofs::Prefixes::growing), unfolding(schema::specs::Texts::bytes_field))]
 fn put_slice(out: &mut Blob, number: u32, bytes: &[u8]) -> Result<(), NoMemory>
     requires { number < 2 ^ 29 }
     ensures ok { OnOk result (out.new ≡ out.old ++ bytes_field number bytes.now) }
-    ensures err { OnErr result (Begins out.old out.new) }
+    ensures err { OnErr result (IsPrefix out.old out.new) }
 {
     if bytes.is_empty() {
         return Ok(());
@@ -67,7 +67,7 @@ fn put_slice(out: &mut Blob, number: u32, bytes: &[u8]) -> Result<(), NoMemory>
 pub fn put_bytes(out: &mut Blob, number: u32, bytes: &Blob) -> Result<(), NoMemory>
     requires { number < 2 ^ 29 }
     ensures ok { OnOk result (out.new ≡ out.old ++ bytes_field number bytes.now) }
-    ensures err { OnErr result (Begins out.old out.new) }
+    ensures err { OnErr result (IsPrefix out.old out.new) }
 {
     put_slice(out, number, bytes.as_slice())?;
     Ok(())
@@ -78,19 +78,19 @@ pub fn put_bytes(out: &mut Blob, number: u32, bytes: &Blob) -> Result<(), NoMemo
 pub fn put_text(out: &mut Blob, number: u32, text: &Text) -> Result<(), NoMemory>
     requires { number < 2 ^ 29 }
     ensures ok { OnOk result (out.new ≡ out.old ++ bytes_field number text.now) }
-    ensures err { OnErr result (Begins out.old out.new) }
+    ensures err { OnErr result (IsPrefix out.old out.new) }
     ensures typed { OnOk result (is_utf8 text.now ≡ true) }
 {
     put_slice(out, number, text.as_bytes())?;
     Ok(())
 }
 
-/// Puts each element behind its own tag and length, also an empty one.
-#[tactic(auto, using(crate::proofs::Begins::growing))]
+/// Puts each element after its own tag and length, also an empty one.
+#[tactic(auto, using(crate::proofs::Prefixes::growing))]
 pub fn put_bytes_list(out: &mut Blob, number: u32, items: &[Blob]) -> Result<(), NoMemory>
     requires { number < 2 ^ 29 }
     ensures ok { OnOk result (out.new ≡ out.old ++ items_text number items.now) }
-    ensures err { OnErr result (Begins out.old out.new) }
+    ensures err { OnErr result (IsPrefix out.old out.new) }
 {
     for item in items {
         if let Err(stop) = push_long(out, number, item.as_slice()) {
@@ -100,12 +100,12 @@ pub fn put_bytes_list(out: &mut Blob, number: u32, items: &[Blob]) -> Result<(),
     Ok(())
 }
 
-/// Puts each element behind its own tag and length, also an empty one.
-#[tactic(auto, using(crate::proofs::Typed::each_next, crate::proofs::Begins::growing))]
+/// Puts each element after its own tag and length, also an empty one.
+#[tactic(auto, using(crate::proofs::Types::each_next, crate::proofs::Prefixes::growing))]
 pub fn put_text_list(out: &mut Blob, number: u32, items: &[Text]) -> Result<(), NoMemory>
     requires { number < 2 ^ 29 }
     ensures ok { OnOk result (out.new ≡ out.old ++ items_text number items.now) }
-    ensures err { OnErr result (Begins out.old out.new) }
+    ensures err { OnErr result (IsPrefix out.old out.new) }
     ensures typed { OnOk result (Each (λ text. is_utf8 text ≡ true) items.now) }
 {
     for item in items {
@@ -116,8 +116,8 @@ pub fn put_text_list(out: &mut Blob, number: u32, items: &[Text]) -> Result<(), 
     Ok(())
 }
 
-/// Puts a message, whose length is known, behind its tag and length.
-#[tactic(auto, using(crate::proofs::Begins::growing, schema_laws::proofs::Onto::long_onto, schema_laws::proofs::Onto::onto, schema_laws::proofs::Onto::onto_len))]
+/// Puts a message, whose length is known, after its tag and length.
+#[tactic(auto, using(crate::proofs::Prefixes::growing, schema_laws::proofs::Onto::long_onto, schema_laws::proofs::Onto::onto, schema_laws::proofs::Onto::onto_len))]
 fn push_message<T: Wire, I: NewIndexes>(
     out: &mut Blob,
     number: u32,
@@ -129,7 +129,7 @@ fn push_message<T: Wire, I: NewIndexes>(
     requires same { len ≡ len_onto T.shape 0 (moved (I.to indexes.now) T.shape (T.view message.now)) }
     requires room { len < 2 ^ 63 }
     ensures ok { OnOk result (out.new ≡ out.old ++ long_field number (spell T.shape (moved (I.to indexes.now) T.shape (T.view message.now)))) }
-    ensures err { OnErr result (Begins out.old out.new) }
+    ensures err { OnErr result (IsPrefix out.old out.new) }
     ensures typed { OnOk result (IsTyped T.shape (T.view message.now)) }
 {
     push_varint(out, number as u64 * 8 + 2)?;
@@ -139,7 +139,7 @@ fn push_message<T: Wire, I: NewIndexes>(
 }
 
 /// Puts a message that is not empty.
-#[tactic(auto, using(crate::proofs::Begins::growing, schema_laws::proofs::Lengths::bytes_field_le, crate::proofs::Typed::none_put, crate::proofs::Rows::bytes_some, schema_laws::proofs::Onto::onto_len))]
+#[tactic(auto, using(crate::proofs::Prefixes::growing, schema_laws::proofs::Lengths::bytes_field_le, crate::proofs::Types::none_put, crate::proofs::Rows::bytes_some, schema_laws::proofs::Onto::onto_len))]
 pub fn put_message<T: Wire, I: NewIndexes>(
     out: &mut Blob,
     number: u32,
@@ -149,7 +149,7 @@ pub fn put_message<T: Wire, I: NewIndexes>(
     requires below { number < 2 ^ 29 }
     requires room { length (bytes_field number (spell T.shape (moved (I.to indexes.now) T.shape (T.view message.now)))) < 2 ^ 63 }
     ensures ok { OnOk result (out.new ≡ out.old ++ bytes_field number (spell T.shape (moved (I.to indexes.now) T.shape (T.view message.now)))) }
-    ensures err { OnErr result (Begins out.old out.new) }
+    ensures err { OnErr result (IsPrefix out.old out.new) }
     ensures typed { OnOk result (IsTyped T.shape (T.view message.now)) }
 {
     let len = message.rows_len(indexes);
@@ -162,8 +162,8 @@ pub fn put_message<T: Wire, I: NewIndexes>(
     Ok(())
 }
 
-/// Puts each message behind its own tag and length, also an empty one.
-#[tactic(auto, using(crate::proofs::Typed::each_next, crate::proofs::Begins::growing))]
+/// Puts each message after its own tag and length, also an empty one.
+#[tactic(auto, using(crate::proofs::Types::each_next, crate::proofs::Prefixes::growing))]
 pub fn put_messages<T: Wire, I: NewIndexes>(
     out: &mut Blob,
     number: u32,
@@ -173,7 +173,7 @@ pub fn put_messages<T: Wire, I: NewIndexes>(
     requires below { number < 2 ^ 29 }
     requires room { length (items_text number (map (spell T.shape) (map (moved (I.to indexes.now) T.shape) (map T.view items.now)))) < 2 ^ 63 }
     ensures ok { OnOk result (out.new ≡ out.old ++ items_text number (map (spell T.shape) (map (moved (I.to indexes.now) T.shape) (map T.view items.now)))) }
-    ensures err { OnErr result (Begins out.old out.new) }
+    ensures err { OnErr result (IsPrefix out.old out.new) }
     ensures typed { OnOk result (Each (IsTyped T.shape) (map T.view items.now)) }
 {
     for item in items {
@@ -185,10 +185,10 @@ pub fn put_messages<T: Wire, I: NewIndexes>(
 }
 
 /// Puts the varints of numbers.
-#[tactic(auto, using(crate::proofs::Typed::each_next, crate::proofs::Begins::growing))]
+#[tactic(auto, using(crate::proofs::Types::each_next, crate::proofs::Prefixes::growing))]
 fn push_packed<N: Number>(out: &mut Blob, items: &[N]) -> Result<(), NoMemory>
     ensures ok { OnOk result (out.new ≡ out.old ++ numbers_text N.format (map N.value items.now)) }
-    ensures err { OnErr result (Begins out.old out.new) }
+    ensures err { OnErr result (IsPrefix out.old out.new) }
     ensures typed { OnOk result (Each (FitsNumber N.format) (map N.value items.now)) }
 {
     for item in items {
@@ -199,13 +199,13 @@ fn push_packed<N: Number>(out: &mut Blob, items: &[N]) -> Result<(), NoMemory>
     Ok(())
 }
 
-/// Puts numbers, unless there are none, packed behind one tag and length.
-#[tactic(auto, using(crate::proofs::Typed::none_fit, crate::proofs::Begins::growing, schema_laws::proofs::Onto::long_onto, schema_laws::proofs::Lengths::bytes_field_le, crate::proofs::Rows::left_out, crate::proofs::Rows::bytes_some))]
+/// Puts numbers, unless there are none, packed after one tag and length.
+#[tactic(auto, using(crate::proofs::Types::none_fit, crate::proofs::Prefixes::growing, schema_laws::proofs::Onto::long_onto, schema_laws::proofs::Lengths::bytes_field_le, crate::proofs::Rows::left_out, crate::proofs::Rows::bytes_some))]
 pub fn put_numbers<N: Number>(out: &mut Blob, number: u32, items: &[N]) -> Result<(), NoMemory>
     requires below { number < 2 ^ 29 }
     requires room { length (bytes_field number (numbers_text N.format (map N.value items.now))) < 2 ^ 63 }
     ensures ok { OnOk result (out.new ≡ out.old ++ bytes_field number (numbers_text N.format (map N.value items.now))) }
-    ensures err { OnErr result (Begins out.old out.new) }
+    ensures err { OnErr result (IsPrefix out.old out.new) }
     ensures typed { OnOk result (Each (FitsNumber N.format) (map N.value items.now)) }
 {
     let len = packed_len(items);
@@ -219,10 +219,10 @@ pub fn put_numbers<N: Number>(out: &mut Blob, number: u32, items: &[N]) -> Resul
 }
 
 /// Puts eight bytes for each number, the low ones first.
-#[tactic(auto, using(crate::proofs::Typed::each_next, crate::proofs::Begins::growing))]
+#[tactic(auto, using(crate::proofs::Types::each_next, crate::proofs::Prefixes::growing))]
 fn push_eights(out: &mut Blob, items: &[u64]) -> Result<(), NoMemory>
     ensures ok { OnOk result (out.new ≡ out.old ++ fixed_text items.now) }
-    ensures err { OnErr result (Begins out.old out.new) }
+    ensures err { OnErr result (IsPrefix out.old out.new) }
     ensures typed { OnOk result (Each (λ x. x < 2 ^ 64) items.now) }
 {
     for item in items {
@@ -233,13 +233,13 @@ fn push_eights(out: &mut Blob, items: &[u64]) -> Result<(), NoMemory>
     Ok(())
 }
 
-/// Puts eight-byte values, unless there are none, packed behind one tag and length.
-#[tactic(auto, using(crate::proofs::Begins::growing, schema_laws::proofs::Onto::long_onto, schema_laws::proofs::Lengths::bytes_field_le, crate::proofs::Rows::left_out, crate::proofs::Rows::bytes_some, schema_laws::proofs::Fixed::fixed_len))]
+/// Puts eight-byte values, unless there are none, packed after one tag and length.
+#[tactic(auto, using(crate::proofs::Prefixes::growing, schema_laws::proofs::Onto::long_onto, schema_laws::proofs::Lengths::bytes_field_le, crate::proofs::Rows::left_out, crate::proofs::Rows::bytes_some, schema_laws::proofs::FixedNumbers::fixed_len))]
 pub fn put_fixed_list(out: &mut Blob, number: u32, items: &[u64]) -> Result<(), NoMemory>
     requires below { number < 2 ^ 29 }
     requires room { length (bytes_field number (fixed_text items.now)) < 2 ^ 63 }
     ensures ok { OnOk result (out.new ≡ out.old ++ bytes_field number (fixed_text items.now)) }
-    ensures err { OnErr result (Begins out.old out.new) }
+    ensures err { OnErr result (IsPrefix out.old out.new) }
     ensures typed { OnOk result (Each (λ x. x < 2 ^ 64) items.now) }
 {
     if items.is_empty() {

@@ -1,7 +1,7 @@
 //! The kinds of tables.
 ghost use Rattle.std.specs.Prelude.{◌≡◌, ◌<◌, ◌≤◌};
 ghost use Rattle.schema.specs.Tables.{field_of};
-ghost use Rattle.pb_wire.specs.Tables.{place_of, table_of};
+ghost use Rattle.pb_wire.specs.TableKinds.{place_of, table_of};
 
 /// The kinds of tables of a dictionary, in the order of its fields.
 #[derive(Clone, Copy, Debug, PartialEq, Eq)]

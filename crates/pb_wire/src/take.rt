@@ -1,4 +1,4 @@
-//! One occurrence of a field, taken by its row: singular rows over the value so far, repeated ones behind the elements so
+//! One occurrence of a field, taken by its row: singular rows over the value so far, repeated ones after the elements so
 //! far. A payload whose wire type doesn't fit the row is skipped.
 ghost use Rattle.std.specs.Prelude.{◌≡◌, ◌<◌, ◌≤◌, ◌^◌, length, map, Ok};
 ghost use Rattle.schema.specs.Field.{bytes_of};

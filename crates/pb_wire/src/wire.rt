@@ -8,7 +8,8 @@ ghost use Rattle.schema.specs.Shape.{Shape, Value, IsMessage, empty};
 ghost use Rattle.schema.specs.Spell.{spell, spell_onto, len_onto};
 ghost use Rattle.schema.specs.ReadBack.{IsReadBack};
 ghost use Rattle.schema.specs.Typed.{IsTyped};
-ghost use Rattle.pb_wire.specs.Answers.{Took, Reads, Begins};
+ghost use Rattle.schema.specs.Prefix.{IsPrefix};
+ghost use Rattle.pb_wire.specs.Answers.{Took, Reads};
 ghost use Rattle.pb_wire.specs.View.{payload_view, field_view};
 
 use crate::next::front_field;
@@ -39,17 +40,17 @@ pub trait Wire: Drop {
         ensures { result ≡ len_onto shape 0 (moved (I.to indexes.now) shape (view self.now)) };
 
     /// Puts the rows' canonical spelling with new indexes at the end. Numbers are then known in their range and texts as UTF-8,
-    /// since each was read. After an error, which says out of memory, the bytes so far still stand in front.
+    /// since each was read. After an error, which says out of memory, the bytes so far are still in front.
     fn put_rows<I: NewIndexes>(&self, indexes: &I, out: &mut Blob) -> Result<(), NoMemory>
         requires { len_onto shape 0 (moved (I.to indexes.now) shape (view self.now)) < 2 ^ 63 }
         ensures ok { OnOk result (out.new ≡ spell_onto shape out.old (moved (I.to indexes.now) shape (view self.now))) }
-        ensures err { OnErr result (Begins out.old out.new) }
+        ensures err { OnErr result (IsPrefix out.old out.new) }
         ensures typed { OnOk result (IsTyped shape (view self.now)) };
 
     /// The shape is that of a message.
     ghost message: { IsMessage shape };
 
-    /// No two rows have one number, and each has one that a tag can hold.
+    /// The field numbers of the rows are distinct, and each is one that a tag can hold.
     ghost lawful: { is_lawful shape ≡ true };
 
     /// Takes the fields of bytes that begin at the place `base` of the file, up to their first fault.

@@ -83,7 +83,7 @@ ascend_more : (b : Head) (hs : List Head) (h : Head) → Ascend b hs → IsBefor
 ascend_more b [] h a i = (i, tt)
 ascend_more b (g ∷ hs) h a i = (a.0, ascend_more g hs h a.1 i)
 
--- the sample at the ends of columns, behind those that there were
+-- the sample at the ends of columns, after those that there were
 abbrev pub added : Sample → List ℤ → List ℤ → List ℕ → Sample
 added all ws bs us = record { stack_index = all.stack_index; values = ws; attribute_indices = bs; link_index = all.link_index; timestamps_unix_nano = us }
 

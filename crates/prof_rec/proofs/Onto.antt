@@ -1,4 +1,4 @@
--- A message that is read over the lists of another: its elements come behind theirs.
+-- A message that is read over the lists of another: its elements come after theirs.
 use Rattle.std.proofs.Common.{◌≡◌, ℕ, List, [], ◌∷◌, ◌++◌, length, Bool, true, false, cond, Result, Ok, Err, refl, sym, ap, ◌∙◌, append_assoc}
 use Rattle.std.specs.Prelude.{◌%◌, ◌==◌}
 use Rattle.std.specs.Int.{w64, from_le_bytes}
@@ -8,7 +8,7 @@ use Rattle.schema.specs.Merge.{at_place, more_fixed, more_numbers, more_packed, 
 use Rattle.schema.specs.Messages.{sample}
 use Rattle.schema.specs.Run.{run}
 use Rattle.schema.specs.Shape.{Shape, Value, Format, NumberValue, Number, Index, Fixed, One, Many, I32, I64, number_from}
-use Rattle.schema.specs.Steps.{◌>>=◌, Trace, Done, Bad, Met, trace}
+use Rattle.schema.specs.Decoding.{◌>>=◌, Trace, Done, Bad, Met, trace}
 use Rattle.prof_rec.specs.Onto.{onto}
 
 -- ---- the elements of one payload
@@ -36,7 +36,7 @@ fixed_behind at (Four b) p vs = refl
 
 -- ---- one field
 
--- the elements of a repeated row come behind those that there are
+-- the elements of a repeated row come after those that there are
 abbrev pub ComesBehind : Shape → Type 0
 ComesBehind k = (at end : ℕ) (payload : Payload) (p vs : List (Value k)) → take_many k (take_field k) at end payload (p ++ vs) ≡ (take_many k (take_field k) at end payload vs >>= λ x. Ok (p ++ x))
 
@@ -46,7 +46,7 @@ AllBehind (One n k rest) = AllBehind rest
 AllBehind (Many n k rest) = ComesBehind k × AllBehind rest
 AllBehind s = Unit {0}
 
--- a row, beside the rows behind it
+-- a row, beside the rows after it
 abbrev both : {A B : Type 0} → A → B → A × B
 both a b = (a, b)
 
@@ -56,7 +56,7 @@ with_right r y = r >>= λ a. Ok (both a y)
 abbrev with_left : {A B : Type 0} → A → Result B Fault → Result (A × B) Fault
 with_left x q = q >>= λ b. Ok (both x b)
 
--- a singular row, or those behind it
+-- a singular row, or those after it
 one_row : {A B : Type 0} (t : Bool) (r : Result A Fault) (q : Result B Fault) (x : A) (y : B) (h : B → B)
     → cond t (with_right r (h y)) (with_left x (q >>= λ b. Ok (h b))) ≡ (cond t (with_right r y) (with_left x q) >>= λ w. Ok (both w.0 (h w.1)))
 one_row true (Ok a) q x y h = refl
@@ -64,7 +64,7 @@ one_row true (Err e) q x y h = refl
 one_row false r (Ok b) x y h = refl
 one_row false r (Err e) x y h = refl
 
--- a repeated row, or those behind it
+-- a repeated row, or those after it
 many_row : {A B : Type 0} (t : Bool) (r : Result A Fault) (q : Result B Fault) (x : A) (y : B) (f : A → A) (h : B → B)
     → cond t (with_right (r >>= λ a. Ok (f a)) (h y)) (with_left (f x) (q >>= λ b. Ok (h b))) ≡ (cond t (with_right r y) (with_left x q) >>= λ w. Ok (both (f w.0) (h w.1)))
 many_row true (Ok a) q x y f h = refl
@@ -100,7 +100,7 @@ run_behind s p v (Met at end f rest) h =
 
 -- ---- samples
 
--- its rows are numbers, so what is read over a sample is read behind its lists
+-- its rows are numbers, so what is read over a sample is read after its lists
 pub sample_behind : (p v : Value sample) (base : ℕ) (bytes : List ℕ) → merge sample (onto sample p v) base bytes ≡ (merge sample v base bytes >>= λ w. Ok (onto sample p w))
 sample_behind p v base bytes =
     run_behind sample p v (trace base bytes)

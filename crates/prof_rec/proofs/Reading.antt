@@ -5,7 +5,7 @@ use Rattle.schema.specs.Fault.{Fault}
 use Rattle.schema.specs.Merge.{merge}
 use Rattle.schema.specs.Messages.{sample}
 use Rattle.schema.specs.Shape.{Value, empty}
-use Rattle.schema.specs.Steps.{◌>>=◌}
+use Rattle.schema.specs.Decoding.{◌>>=◌}
 use Rattle.schema_laws.proofs.Results.{map_ok, map_err}
 use Rattle.pb_wire.specs.Answers.{IsFault}
 use Rattle.pb_wire.specs.declared.fault.ReadFault.{ReadFault}
@@ -33,7 +33,7 @@ opened all = record {
 abbrev made : ℤ → List ℤ → List ℤ → ℤ → List ℕ → Value sample
 made s v a l t = (s, (v, (a, (l, (t, tt)))))
 
--- what is read onto the columns is read behind them
+-- what is read onto the columns is read after them
 behind_columns : (all : Sample) (base : ℕ) (bytes : List ℕ)
     → merge sample (sample_view (opened all)) base bytes ≡ (merge sample (empty sample) base bytes >>= λ w. Ok (onto sample (sample_view (opened all)) w))
 behind_columns all base bytes =

@@ -1,5 +1,5 @@
 //! What is done to samples in columns: `heads` has a head for each, and the lists of `all` are the columns. A sample that is read
-//! onto `all` stands at their ends.
+//! onto `all` is at their ends.
 ghost use Rattle.std.specs.Prelude.{◌≡◌, ◌+◌, ◌<◌, ◌≤◌, ◌^◌, [], ◌∷◌, ◌++◌, length, take, map, Ok, Some, OnOk, OnErr, slice_get, slice_range};
 ghost use Rattle.pb_wire.specs.Answers.{Took};
 ghost use Rattle.prof_rec.specs.Columns.{HasColumns, IsParted, last_head, samples_in, with_elements};
@@ -44,7 +44,7 @@ pub(crate) fn sample_at<'a>(heads: &[Head], all: &'a Sample, place: usize) -> Sa
     }
 }
 
-/// Ends the sample that stands at the ends of the columns. After an error the heads are as before.
+/// Ends the sample that is at the ends of the columns. After an error the heads are as before.
 fn end_sample(heads: &mut List<Head>, all: &Sample) -> Result<(), NoMemory>
     ensures ok { OnOk result (heads.new ≡ heads.old ++ last_head all.now ∷ []) }
     ensures err { OnErr result (heads.new ≡ heads.old) }
@@ -62,7 +62,7 @@ fn end_sample(heads: &mut List<Head>, all: &Sample) -> Result<(), NoMemory>
     Ok(())
 }
 
-/// Reads one more sample of bytes that begin at the place `base` of the file. After a fault nothing is told of
+/// Reads one more sample of bytes that begin at the place `base` of the file. After a fault nothing is known of
 /// the heads and the columns.
 pub(crate) fn read_sample(
     heads: &mut List<Head>,
@@ -83,7 +83,7 @@ pub(crate) fn read_sample(
     Ok(())
 }
 
-// Puts the elements of a sample at the ends of the columns, and its indexes. After an error some may stand there.
+// Puts the elements of a sample at the ends of the columns, and its indexes. After an error some may be there.
 fn put_elements(all: &mut Sample, sample: &Sample) -> Result<(), NoMemory>
     ensures ok { OnOk result (all.new ≡ with_elements all.old sample.now) }
     ensures err { OnErr result (HasColumns all.old all.new) }
@@ -98,7 +98,7 @@ fn put_elements(all: &mut Sample, sample: &Sample) -> Result<(), NoMemory>
     Ok(())
 }
 
-// Puts a sample at the ends of the columns. After an error the heads are as before, and some of its elements may stand there.
+// Puts a sample at the ends of the columns. After an error the heads are as before, and some of its elements may be there.
 fn put_sample(heads: &mut List<Head>, all: &mut Sample, sample: &Sample) -> Result<(), NoMemory>
     ensures heads { OnOk result (heads.new ≡ heads.old ++ last_head all.new ∷ []) }
     ensures ok { OnOk result (all.new ≡ with_elements all.old sample.now) }

@@ -4,7 +4,7 @@ ghost use Rattle.prof_rec.specs.Columns.{start};
 
 use pb_wire::NoMemory;
 
-/// What a sample holds beside its lists, and where these end in the columns.
+/// What a sample holds besides its lists, and where these end in the columns.
 #[derive(Clone, Copy, Debug)]
 pub(crate) struct Head {
     pub stack_index: i32,
@@ -14,7 +14,7 @@ pub(crate) struct Head {
     pub times_end: u32,
 }
 
-/// What stands before the first sample: each list ends at 0.
+/// The head before the first sample: each list ends at 0.
 #[inline(always)]
 pub(crate) fn start_head() -> Head
     ensures { result ≡ start }

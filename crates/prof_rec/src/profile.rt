@@ -95,7 +95,7 @@ impl Wire for Profile {
             )
     }
 
-    #[tactic(auto, using(pb_wire::proofs::Begins::growing))]
+    #[tactic(auto, using(pb_wire::proofs::Prefixes::growing))]
     fn put_rows<I: NewIndexes>(&self, indexes: &I, out: &mut Blob) -> Result<(), NoMemory> {
         put_message(out, 1, &self.sample_type, indexes)?;
         put_samples(out, 2, &self.samples, indexes)?;

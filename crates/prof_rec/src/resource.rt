@@ -52,7 +52,7 @@ impl Wire for Resource {
             + bytes_list_len(3, self.opaque.as_slice())
     }
 
-    #[tactic(auto, using(pb_wire::proofs::Begins::growing))]
+    #[tactic(auto, using(pb_wire::proofs::Prefixes::growing))]
     fn put_rows<I: NewIndexes>(&self, indexes: &I, out: &mut Blob) -> Result<(), NoMemory> {
         put_messages(out, 1, self.attributes.as_slice(), indexes)?;
         put_number(out, 2, self.dropped_attributes_count)?;

@@ -54,7 +54,7 @@ impl Wire for ResourceProfiles {
             + text_len(3, &self.schema_url)
     }
 
-    #[tactic(auto, using(pb_wire::proofs::Begins::growing))]
+    #[tactic(auto, using(pb_wire::proofs::Prefixes::growing))]
     fn put_rows<I: NewIndexes>(&self, indexes: &I, out: &mut Blob) -> Result<(), NoMemory> {
         put_message(out, 1, &self.resource, indexes)?;
         put_messages(out, 2, self.scope_profiles.as_slice(), indexes)?;

@@ -4,7 +4,7 @@ ghost use Rattle.schema.specs.Messages.{sample};
 ghost use Rattle.schema.specs.Moved.{moved};
 ghost use Rattle.schema.specs.Spell.{len_onto, spell_onto};
 ghost use Rattle.schema.specs.Typed.{IsTyped};
-ghost use Rattle.pb_wire.specs.Answers.{Begins};
+ghost use Rattle.schema.specs.Prefix.{IsPrefix};
 ghost use Rattle.prof_rec.specs.SampleRefs.{sample_of};
 ghost use Rattle.prof_rec.specs.Views.{sample_view};
 
@@ -42,12 +42,12 @@ impl SampleRef<'_> {
     }
 
     /// Puts the rows' canonical spelling with new indexes at the end. After an error, which says out of memory, the bytes so far
-    /// still stand in front.
-    #[tactic(auto, using(pb_wire::proofs::Begins::growing))]
+    /// are still in front.
+    #[tactic(auto, using(pb_wire::proofs::Prefixes::growing))]
     pub fn put_rows<I: NewIndexes>(&self, indexes: &I, out: &mut Blob) -> Result<(), NoMemory>
         requires { len_onto sample 0 (moved (I.to indexes.now) sample (sample_view (sample_of self.now))) < 2 ^ 63 }
         ensures ok { OnOk result (out.new ≡ spell_onto sample out.old (moved (I.to indexes.now) sample (sample_view (sample_of self.now)))) }
-        ensures err { OnErr result (Begins out.old out.new) }
+        ensures err { OnErr result (IsPrefix out.old out.new) }
         ensures typed { OnOk result (IsTyped sample (sample_view (sample_of self.now))) }
     {
         put_index(out, 1, TableKind::Stack, &self.stack_index, indexes)?;

@@ -6,7 +6,7 @@ ghost use Rattle.schema.specs.Moved.{moved};
 ghost use Rattle.schema.specs.Spell.{len_onto, spell};
 ghost use Rattle.schema.specs.Texts.{items_text, long_field};
 ghost use Rattle.schema.specs.Typed.{IsTyped};
-ghost use Rattle.pb_wire.specs.Answers.{Begins};
+ghost use Rattle.schema.specs.Prefix.{IsPrefix};
 ghost use Rattle.prof_rec.specs.SampleRefs.{sample_of};
 ghost use Rattle.prof_rec.specs.Views.{sample_view};
 
@@ -28,8 +28,8 @@ pub fn samples_len<I: NewIndexes>(number: u32, samples: &Samples, indexes: &I) -
     len
 }
 
-/// Puts a sample, whose length is known, behind its tag and length.
-#[tactic(auto, using(pb_wire::proofs::Begins::growing, schema_laws::proofs::Onto::long_onto, schema_laws::proofs::Onto::onto, schema_laws::proofs::Onto::onto_len))]
+/// Puts a sample, whose length is known, after its tag and length.
+#[tactic(auto, using(pb_wire::proofs::Prefixes::growing, schema_laws::proofs::Onto::long_onto, schema_laws::proofs::Onto::onto, schema_laws::proofs::Onto::onto_len))]
 fn put_one<I: NewIndexes>(
     out: &mut Blob,
     number: u32,
@@ -41,7 +41,7 @@ fn put_one<I: NewIndexes>(
     requires same { len ≡ len_onto sample 0 (moved (I.to indexes.now) sample (sample_view (sample_of item.now))) }
     requires room { len < 2 ^ 63 }
     ensures ok { OnOk result (out.new ≡ out.old ++ long_field number (spell sample (moved (I.to indexes.now) sample (sample_view (sample_of item.now))))) }
-    ensures err { OnErr result (Begins out.old out.new) }
+    ensures err { OnErr result (IsPrefix out.old out.new) }
     ensures typed { OnOk result (IsTyped sample (sample_view (sample_of item.now))) }
 {
     put_head(out, number, len)?;
@@ -49,8 +49,8 @@ fn put_one<I: NewIndexes>(
     Ok(())
 }
 
-/// Puts each sample behind its own tag and length, also an empty one. After an error a part of the row may stand at the end.
-#[tactic(auto, using(pb_wire::proofs::Begins::growing))]
+/// Puts each sample after its own tag and length, also an empty one. After an error a part of the row may be at the end.
+#[tactic(auto, using(pb_wire::proofs::Prefixes::growing))]
 pub fn put_samples<I: NewIndexes>(
     out: &mut Blob,
     number: u32,
@@ -60,7 +60,7 @@ pub fn put_samples<I: NewIndexes>(
     requires below { number < 2 ^ 29 }
     requires room { length (items_text number (map (spell sample) (map (moved (I.to indexes.now) sample) (map sample_view samples.now)))) < 2 ^ 63 }
     ensures ok { OnOk result (out.new ≡ out.old ++ items_text number (map (spell sample) (map (moved (I.to indexes.now) sample) (map sample_view samples.now)))) }
-    ensures err { OnErr result (Begins out.old out.new) }
+    ensures err { OnErr result (IsPrefix out.old out.new) }
     ensures typed { OnOk result (Each (IsTyped sample) (map sample_view samples.now)) }
 {
     for place in 0..samples.len() {

@@ -17,7 +17,7 @@ use pb_wire::{Field, List, NoMemory, Payload, ReadFault};
 use std::alloc::Global;
 use std::marker::Model;
 
-/// Samples in order, seen as their list. No sample has memory of its own: each is a head of 20 bytes, and its elements stand in
+/// Samples in order, seen as their list. No sample has memory of its own: each is a head of 20 bytes, and its elements are in
 /// three columns, one for each kind of list.
 #[derive(Debug, Drop)]
 pub struct Samples {
@@ -91,7 +91,7 @@ impl Samples {
         }
     }
 
-    /// Adds a sample behind the others. After an error they are as before. It also answers `NoMemory` where a column would have
+    /// Adds a sample after the others. After an error they are as before. It also answers `NoMemory` where a column would have
     /// 2^32 elements, which no message that is read has.
     pub fn add(&mut self, sample: Sample) -> Result<(), NoMemory>
         ensures ok { OnOk result (self.new ≡ self.old ++ sample ∷ []) }

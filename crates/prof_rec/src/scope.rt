@@ -54,7 +54,7 @@ impl Wire for Scope {
             + number_len(4, self.dropped_attributes_count)
     }
 
-    #[tactic(auto, using(pb_wire::proofs::Begins::growing))]
+    #[tactic(auto, using(pb_wire::proofs::Prefixes::growing))]
     fn put_rows<I: NewIndexes>(&self, indexes: &I, out: &mut Blob) -> Result<(), NoMemory> {
         put_text(out, 1, &self.name)?;
         put_text(out, 2, &self.version)?;

@@ -51,7 +51,7 @@ impl Wire for ScopeProfiles {
             + text_len(3, &self.schema_url)
     }
 
-    #[tactic(auto, using(pb_wire::proofs::Begins::growing))]
+    #[tactic(auto, using(pb_wire::proofs::Prefixes::growing))]
     fn put_rows<I: NewIndexes>(&self, indexes: &I, out: &mut Blob) -> Result<(), NoMemory> {
         put_message(out, 1, &self.scope, indexes)?;
         put_messages(out, 2, self.profiles.as_slice(), indexes)?;

@@ -1,4 +1,4 @@
-//! Cases for what stands below the tool, a line each: says of each line on the input what comes of it.
+//! Cases for what is below the tool, a line each: says of each line on the input what comes of it.
 //!
 //! The first word of a line is its kind, and the rest are its data. A line that begins with `#` is a title or a remark, and is
 //! copied, as an empty line is. `docs/rows.md` has the kinds.

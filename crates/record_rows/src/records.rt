@@ -52,7 +52,7 @@ fn rewritten<T: Wire>(alloc: Global, payloads: &Payloads) -> Result<String, Case
     }
 }
 
-// The canonical bytes of a record, and the length that it tells of them.
+// The canonical bytes of a record, and the length that it reports.
 fn written<T: Wire>(alloc: Global, message: &T) -> Result<String, CaseFault>
     requires { length (spell T.shape (T.view message.now)) < 2 ^ 63 }
 {

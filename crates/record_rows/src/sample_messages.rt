@@ -131,7 +131,7 @@ impl Wire for Tree {
             + text_list_len(12, self.names.as_slice())
     }
 
-    #[tactic(auto, using(pb_wire::proofs::Begins::growing))]
+    #[tactic(auto, using(pb_wire::proofs::Prefixes::growing))]
     fn put_rows<I: NewIndexes>(&self, indexes: &I, out: &mut Blob) -> Result<(), NoMemory> {
         put_message(out, 1, &self.leaf, indexes)?;
         put_messages(out, 2, self.leaves.as_slice(), indexes)?;

@@ -12,7 +12,7 @@ use pb_wire::{Blob, Pieces};
 use std::alloc::Global;
 use std::hash::{DefaultHasher, Hash, Hasher};
 
-/// The canonical payload of the value of the payloads and that of its row as field 2, with the lengths that are told of them; or
+/// The canonical payload of the value of the payloads and that of its row as field 2, with the lengths that the code reports; or
 /// the first fault.
 pub fn told(alloc: Global, payloads: &Payloads) -> Result<String, CaseFault> {
     let pieces = payloads.pieces(alloc)?;

@@ -6,7 +6,7 @@ use pb_wire::{
 };
 use std::alloc::{AllocError, Global};
 
-/// The shortest varint of a number, and the length that is told of it.
+/// The shortest varint of a number, and the length that the code reports for it.
 pub fn varint_told(alloc: Global, data: &str) -> Result<String, CaseFault> {
     let number = data.parse()?;
     let mut out = Blob::begin(alloc);
@@ -16,7 +16,7 @@ pub fn varint_told(alloc: Global, data: &str) -> Result<String, CaseFault> {
     Ok(format!(in alloc; "{bytes}, {len} bytes")?)
 }
 
-/// The field of a body that begins so many bytes behind the body's beginning.
+/// The field of a body that begins so many bytes after the body's beginning.
 pub fn field_told(alloc: Global, data: &str) -> Result<String, CaseFault> {
     let (at, body) = data.split_once(' ').ok_or(CaseFault::Missing)?;
     let at: usize = at.parse()?;

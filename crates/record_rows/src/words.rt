@@ -1,9 +1,9 @@
-//! The words of the command line.
+//! The command line.
 use crate::fault::CaseFault;
 use commands::{ToolPlan, plan};
 use std::alloc::{AllocError, Global};
 
-/// What words ask for, each word that is taken in brackets, or why they are refused.
+/// What a command line asks for, each word that is taken in brackets, or why it is refused.
 pub fn told(alloc: Global, data: &str) -> Result<String, CaseFault> {
     match plan(alloc, &words_of(alloc, data)?) {
         Ok(plan) => Ok(plan_told(alloc, &plan)?),
@@ -11,7 +11,7 @@ pub fn told(alloc: Global, data: &str) -> Result<String, CaseFault> {
     }
 }
 
-/// The words of a text. `""` stands for the empty word.
+/// The words of a text. `""` is the empty word.
 pub fn words_of(alloc: Global, data: &str) -> Result<Vec<String>, AllocError> {
     let mut words = Vec::new(alloc);
     for word in data.split_whitespace() {

@@ -1,9 +1,9 @@
 pub mod Keys
-pub mod Placed
+pub mod Places
 pub mod Parts
-pub mod Entered
+pub mod Entering
 pub mod Walks
-pub mod Begun
+pub mod Beginning
 pub mod Moves
-pub mod Noted
-pub mod Written
+pub mod Memos
+pub mod Texts

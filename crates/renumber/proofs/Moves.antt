@@ -6,56 +6,56 @@ use Rattle.schema.specs.Each.{Each}
 use Rattle.schema.specs.Moved.{mentions}
 use Rattle.schema.specs.Shape.{Shape, Table, Mappings, Locations, Functions, Links, Strings, Attributes, Stacks}
 use Rattle.schema.specs.Tables.{same_table}
-use Rattle.meaning.specs.Steps.{Noted}
+use Rattle.meaning.specs.Renumbering.{Noted}
 use Rattle.meaning.specs.Tables.{entry}
-use Rattle.meaning.proofs.Sound.{same_table-true}
-use Rattle.pb_wire.specs.Tables.{place_of}
-use Rattle.key_tables.specs.Keys.{Begins, Keys, at}
-use Rattle.key_tables.proofs.Tables.{other_place, place_below}
+use Rattle.meaning.proofs.Soundness.{same_table-true}
+use Rattle.pb_wire.specs.TableKinds.{place_of}
+use Rattle.key_tables.specs.Keys.{ArePrefixes, Keys, at}
+use Rattle.key_tables.proofs.Places.{other_place, place_below}
 use Rattle.std.specs.Result.{IsErr}
 use Rattle.schema_laws.proofs.Mentions.{leads_elsewhere}
 use Rattle.dict_rec.specs.declared.dictionary.Dictionary.{Dictionary}
 use Rattle.renumber.specs.Entries.{index_into, old_entries}
-use Rattle.renumber.specs.Walk.{IsOpen, MetIndexes, Moves, missed, State, Unless, every_table, noted_in, unmet_in, unmet_of}
+use Rattle.renumber.specs.Walk.{IsOpen, MemoLists, Moves, missed, State, Unless, every_table, noted_in, unmet_in, unmet_of}
 
 -- ---- one entry more that was met
 
 -- in its table
-unmet_set : (news : List (Option ℕ)) (i j : ℕ) → i < length news → get_or news i None ≡ None → unmet_in (set news i (Some j)) + 1 ≡ unmet_in news
+unmet_set : (new_indexes : List (Option ℕ)) (i j : ℕ) → i < length new_indexes → get_or new_indexes i None ≡ None → unmet_in (set new_indexes i (Some j)) + 1 ≡ unmet_in new_indexes
 unmet_set [] i j l e = absurd (omega arith)
-unmet_set (None ∷ news) zero j l e = omega arith
-unmet_set (Some k ∷ news) zero j l e = absurd cc
-unmet_set (None ∷ news) (suc i) j l e = omega (arith, unmet_set news i j (omega arith) e)
-unmet_set (Some k ∷ news) (suc i) j l e = unmet_set news i j (omega arith) e
+unmet_set (None ∷ new_indexes) zero j l e = omega arith
+unmet_set (Some k ∷ new_indexes) zero j l e = absurd cc
+unmet_set (None ∷ new_indexes) (suc i) j l e = omega (arith, unmet_set new_indexes i j (omega arith) e)
+unmet_set (Some k ∷ new_indexes) (suc i) j l e = unmet_set new_indexes i j (omega arith) e
 
 -- in all
-unmet_list : (met : MetIndexes) (p : ℕ) (news : List (Option ℕ)) → p < length met → unmet_of (set met p news) + unmet_in (get_or met p []) ≡ unmet_of met + unmet_in news
-unmet_list [] p news l = absurd (omega arith)
-unmet_list (x ∷ met) zero news l = omega arith
-unmet_list (x ∷ met) (suc p) news l = omega (arith, unmet_list met p news (omega arith))
+unmet_list : (memo : MemoLists) (p : ℕ) (new_indexes : List (Option ℕ)) → p < length memo → unmet_of (set memo p new_indexes) + unmet_in (get_or memo p []) ≡ unmet_of memo + unmet_in new_indexes
+unmet_list [] p new_indexes l = absurd (omega arith)
+unmet_list (x ∷ memo) zero new_indexes l = omega arith
+unmet_list (x ∷ memo) (suc p) new_indexes l = omega (arith, unmet_list memo p new_indexes (omega arith))
 
-module _ (T : Table) (place new : ℕ) (met : MetIndexes) (seven : length met ≡ 7) where
-  below : place_of T < length met
+module _ (T : Table) (place new : ℕ) (memo : MemoLists) (seven : length memo ≡ 7) where
+  below : place_of T < length memo
   below = omega (arith, seven, place_below T)
 
-  pub noted_seven : length (noted_in T place new met) ≡ 7
-  noted_seven = length-set met (place_of T) (set (at met T) place (Some new)) ∙ seven
+  pub noted_seven : length (noted_in T place new memo) ≡ 7
+  noted_seven = length-set memo (place_of T) (set (at memo T) place (Some new)) ∙ seven
 
-  noted_here : at (noted_in T place new met) T ≡ set (at met T) place (Some new)
-  noted_here = get_or-set_same met (place_of T) (set (at met T) place (Some new)) [] below
+  noted_here : at (noted_in T place new memo) T ≡ set (at memo T) place (Some new)
+  noted_here = get_or-set_same memo (place_of T) (set (at memo T) place (Some new)) [] below
 
-  noted_elsewhere : (U : Table) → same_table U T ≡ false → at (noted_in T place new met) U ≡ at met U
-  noted_elsewhere U e = get_or-set_other met (place_of T) (place_of U) (set (at met T) place (Some new)) [] (other_place U T e)
+  noted_elsewhere : (U : Table) → same_table U T ≡ false → at (noted_in T place new memo) U ≡ at memo U
+  noted_elsewhere U e = get_or-set_other memo (place_of T) (place_of U) (set (at memo T) place (Some new)) [] (other_place U T e)
 
-  pub noted_tables : Noted T place new (at met) (at (noted_in T place new met))
+  pub noted_tables : Noted T place new (at memo) (at (noted_in T place new memo))
   noted_tables U = by_test (same_table U T) refl
     where
-      by_test : (b : Bool) → same_table U T ≡ b → at (noted_in T place new met) U ≡ cond b (set (at met U) place (Some new)) (at met U)
+      by_test : (b : Bool) → same_table U T ≡ b → at (noted_in T place new memo) U ≡ cond b (set (at memo U) place (Some new)) (at memo U)
       by_test false e = noted_elsewhere U e
-      by_test true e = subst (λ V. at (noted_in T place new met) V ≡ set (at met V) place (Some new)) (sym (same_table-true U T e)) noted_here
+      by_test true e = subst (λ V. at (noted_in T place new memo) V ≡ set (at memo V) place (Some new)) (sym (same_table-true U T e)) noted_here
 
-  pub noted_unmet : place < length (at met T) → get_or (at met T) place None ≡ None → unmet_of (noted_in T place new met) + 1 ≡ unmet_of met
-  noted_unmet l e = omega (arith, unmet_list met (place_of T) (set (at met T) place (Some new)) below, unmet_set (at met T) place new l e)
+  pub noted_unmet : place < length (at memo T) → get_or (at memo T) place None ≡ None → unmet_of (noted_in T place new memo) + 1 ≡ unmet_of memo
+  noted_unmet l e = omega (arith, unmet_list memo (place_of T) (set (at memo T) place (Some new)) below, unmet_set (at memo T) place new l e)
 
 -- ---- tables that a shape does not mention
 
@@ -93,7 +93,7 @@ pub moves_then : (s k : Shape) (extra : ℕ) (a b c : State) (n m l : ℕ) → M
 moves_then s k extra a b c n m l w p q = record {
   same = q.same ∙ p.same;
   kept = λ base h. q.kept base (p.kept base h);
-  still = still_of s (λ T. at c.met T ≡ at a.met T) (λ T e. still_at s (λ U. at c.met U ≡ at b.met U) q.still T e ∙ still_at k (λ U. at b.met U ≡ at a.met U) p.still T (w T e));
+  still = still_of s (λ T. at c.memo T ≡ at a.memo T) (λ T e. still_at s (λ U. at c.memo U ≡ at b.memo U) q.still T e ∙ still_at k (λ U. at b.memo U ≡ at a.memo U) p.still T (w T e));
   most = omega (arith, p.most, q.most);
 }
 
@@ -102,7 +102,7 @@ pub moves_wider : (s k : Shape) (extra : ℕ) (a b : State) (n m : ℕ) → Ment
 moves_wider s k extra a b n m w p = record {
   same = p.same;
   kept = p.kept;
-  still = still_of s (λ T. at b.met T ≡ at a.met T) (λ T e. still_at k (λ U. at b.met U ≡ at a.met U) p.still T (w T e));
+  still = still_of s (λ T. at b.memo T ≡ at a.memo T) (λ T e. still_at k (λ U. at b.memo U ≡ at a.memo U) p.still T (w T e));
   most = p.most;
 }
 
@@ -125,13 +125,13 @@ index_elsewhere T U = by_test (same_table U T)
 -- ---- an entry that is entered
 
 -- a key went into a table, and its place was noted: a step more at most, and an unmet entry less
-pub moves_noted : (a b : State) (T : Table) (place new n m : ℕ) → b.source ≡ a.source → ((base : Keys) → Begins base a.keys → Begins base b.keys)
-    → b.met ≡ noted_in T place new a.met → length a.met ≡ 7 → place < length (at a.met T) → get_or (at a.met T) place None ≡ None → m ≤ n + 1 → Moves (index_into T) 0 a b n m
+pub moves_noted : (a b : State) (T : Table) (place new n m : ℕ) → b.source ≡ a.source → ((base : Keys) → ArePrefixes base a.keys → ArePrefixes base b.keys)
+    → b.memo ≡ noted_in T place new a.memo → length a.memo ≡ 7 → place < length (at a.memo T) → get_or (at a.memo T) place None ≡ None → m ≤ n + 1 → Moves (index_into T) 0 a b n m
 moves_noted a b T place new n m same kept e seven l free one = record {
   same = same;
   kept = kept;
-  still = still_of (index_into T) (λ U. at b.met U ≡ at a.met U) (λ U h. ap (λ (x : MetIndexes). at x U) e ∙ noted_elsewhere T place new a.met seven U (index_elsewhere T U h));
-  most = omega (arith, one, ap unmet_of e, noted_unmet T place new a.met seven l free);
+  still = still_of (index_into T) (λ U. at b.memo U ≡ at a.memo U) (λ U h. ap (λ (x : MemoLists). at x U) e ∙ noted_elsewhere T place new a.memo seven U (index_elsewhere T U h));
+  most = omega (arith, one, ap unmet_of e, noted_unmet T place new a.memo seven l free);
 }
 
 -- ---- an entry, and then its index
@@ -140,7 +140,7 @@ moves_noted a b T place new n m same kept e seven l free one = record {
 open_first : (T : Table) (extra : ℕ) (a b : State) (n m place : ℕ) → Moves (entry T) extra a b n m → IsOpen T a place → IsOpen T b place
 open_first T extra a b n m place p o = record {
   within = subst (λ (d : Dictionary). place < length (old_entries d T)) (sym p.same) o.within;
-  free = ap (λ l. get_or l place None) (still_at (entry T) (λ U. at b.met U ≡ at a.met U) p.still T (leads_elsewhere T)) ∙ o.free;
+  free = ap (λ l. get_or l place None) (still_at (entry T) (λ U. at b.memo U ≡ at a.memo U) p.still T (leads_elsewhere T)) ∙ o.free;
 }
 
 pub open_still : (T : Table) (s : Shape) → s ≡ entry T → (extra : ℕ) (a b : State) (n m place : ℕ) → Moves s extra a b n m → IsOpen T a place → IsOpen T b place

@@ -156,12 +156,12 @@ place_in [] k (negsuc i) l n = absurd l
 place_in (e ∷ es) k (pos i) l n = l
 place_in (e ∷ es) k (negsuc i) l n = absurd l
 
-pub place_met : (w : State) (T : Table) (i : ℤ) → IsReady w.source w.keys w.met → IsPart (Index T (entry T)) w.source i → FitsSigned w32 i → ¬ (i ≡ pos 0)
-    → nat_abs (to_z w32 (of_z w32 i)) < length (at w.met T)
+pub place_met : (w : State) (T : Table) (i : ℤ) → IsReady w.source w.keys w.memo → IsPart (Index T (entry T)) w.source i → FitsSigned w32 i → ¬ (i ≡ pos 0)
+    → nat_abs (to_z w32 (of_z w32 i)) < length (at w.memo T)
 place_met w T i r p f n =
     let l = place_in (old_entries w.source T) (entry T) i p.within n in
     let a = r.ready.all T in
-    subst (λ z. nat_abs z < length (at w.met T)) (sym (to_z-of_z w32 i f)) (omega (arith, l, a))
+    subst (λ z. nat_abs z < length (at w.memo T)) (sym (to_z-of_z w32 i f)) (omega (arith, l, a))
 
 -- ---- the whole
 

@@ -7,10 +7,10 @@ use Rattle.schema.specs.Shape.{Shape, Index, End, One, Many, Value, Table}
 use Rattle.schema_laws.proofs.Lists.{each_append}
 use Rattle.meaning.specs.Canonical.{renumber, values}
 use Rattle.meaning.specs.Meaning.{at_each, blank, entry_at, resolve, uses, walk_each}
-use Rattle.meaning.specs.Steps.{Memo, Written, is_plain}
+use Rattle.meaning.specs.Renumbering.{Memo, Written, is_plain}
 use Rattle.meaning.specs.Tables.{Tables, entry, same_table, with_new}
 use Rattle.meaning.specs.Tree.{Tree, Integer, listed, tree}
-use Rattle.meaning.proofs.Grown.{written_covers}
+use Rattle.meaning.proofs.Growth.{written_covers}
 use Rattle.meaning.proofs.Orders.{uses-index}
 use Rattle.meaning.proofs.Places.{with_new-all, with_new-append}
 use Rattle.meaning.proofs.Rows.{becomes_itself}
@@ -19,7 +19,7 @@ use Rattle.key_tables.specs.Keys.{at}
 use Rattle.meaning.specs.Memo.{Knows}
 use Rattle.renumber.specs.Entries.{IsPart, index_into, new_entries, old_entries}
 use Rattle.renumber.specs.Walk.{State, Walked, WalkedEach}
-use Rattle.meaning.proofs.Known.{known_stays}
+use Rattle.meaning.proofs.Memo.{known_stays}
 use Rattle.renumber.proofs.Parts.{part_at}
 
 -- the walk of a value
@@ -52,7 +52,7 @@ walked_nothing s p x a = record {
   same = refl;
   walked = (becomes_itself (old_entries a.source) s p (values (new_entries a.keys)) x).walked;
   keeps = λ T i j e. e;
-  known = plain_known (at a.met) s p x;
+  known = plain_known (at a.memo) s p x;
 }
 
 -- a row, then the others
@@ -62,7 +62,7 @@ walked_row {n} {k} {rest} a b c x r q = record {
   walked = both a b c (uses_of k a x.0) (uses_of rest a x.1) r.walked
       (subst (λ (d : Dictionary). (T : Table) → values (new_entries c.keys) T ≡ with_new (values (new_entries b.keys) T) (uses T rest (resolve (old_entries d) rest (tree rest x.1)))) r.same q.walked);
   keeps = λ T i j e. q.keeps T i j (r.keeps T i j e);
-  known = (known_stays (at b.met) (at c.met) q.keeps k x.0 r.known, q.known);
+  known = (known_stays (at b.memo) (at c.memo) q.keeps k x.0 r.known, q.known);
 }
 
 -- a list, then the others
@@ -73,7 +73,7 @@ walked_rows {n} {k} {rest} a b c x r q = record {
       (λ T. r.walked T ∙ ap (with_new (values (new_entries a.keys) T)) (append-nil (walk_each (uses T k) (at_each (resolve (old_entries a.source) k) (listed (map (tree k) x.0))))))
       (subst (λ (d : Dictionary). (T : Table) → values (new_entries c.keys) T ≡ with_new (values (new_entries b.keys) T) (uses T rest (resolve (old_entries d) rest (tree rest x.1)))) r.same q.walked);
   keeps = λ T i j e. q.keeps T i j (r.keeps T i j e);
-  known = ((known_stays (at b.met) (at c.met) q.keeps (Many 1 k End) (x.0, tt) r.known).0, q.known);
+  known = ((known_stays (at b.memo) (at c.memo) q.keeps (Many 1 k End) (x.0, tt) r.known).0, q.known);
 }
 
 -- ---- lists
@@ -99,7 +99,7 @@ walked_push s a b c xs x r q =
           both a b c us (uses_of s a x) (λ U. r.walked U ∙ ap (with_new (values (new_entries a.keys) U)) (append-nil (us U))) here T
           ∙ ap (with_new (values (new_entries a.keys) T)) (sym (list_more T s d xs x) ∙ sym (append-nil (walk_each (uses T s) (at_each (resolve d s) (listed (map (tree s) (xs ++ x ∷ [])))))));
       keeps = λ T i j e. q.keeps T i j (r.keeps T i j e);
-      known = (each_append (Knows (at c.met) s) xs (x ∷ []) (known_stays (at b.met) (at c.met) q.keeps (Many 1 s End) (xs, tt) r.known).0 (q.known, tt), tt);
+      known = (each_append (Knows (at c.memo) s) xs (x ∷ []) (known_stays (at b.memo) (at c.memo) q.keeps (Many 1 s End) (xs, tt) r.known).0 (q.known, tt), tt);
     }
 
 -- as a loop goes
@@ -142,7 +142,7 @@ walked_entry T s q = subst (λ u. (a b c : State) (x : Value u) (i : ℕ) → en
 
 -- ---- entries at places
 
--- the entry x stands at the place i of its table
+-- the entry x is at the place i of its table
 module _ {X : Type 0} (T : Table) (s : Shape) (old : Dictionary) (view : X → Value s) (xs : List X) (i : ℕ) (x : X)
     (all : old_entries old T ≡ map (tree s) (map view xs)) (l : i < length (old_entries old T)) (e : x ≡ get_or xs i x) where
   place_within : i < length xs

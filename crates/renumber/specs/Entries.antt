@@ -10,7 +10,7 @@ use Rattle.schema.specs.Tables.{every_table}
 use Rattle.meaning.specs.Canonical.{IsWithin, values}
 use Rattle.meaning.specs.Meaning.{HasZeros, entry_at, resolve}
 use Rattle.meaning.specs.Message.{entry_text, tables_in}
-use Rattle.meaning.specs.Steps.{Written}
+use Rattle.meaning.specs.Renumbering.{Written}
 use Rattle.meaning.specs.Tables.{Tables, entry}
 use Rattle.meaning.specs.Tree.{Tree, Integer, Octets, tree}
 use Rattle.dict_rec.specs.declared.dictionary.Dictionary.{Dictionary}
@@ -29,17 +29,17 @@ read_as s (Ok x) = x
 read_as s (Err fault) = empty s
 
 -- the entry of a key: a string is its key, and any other entry is what its key is read as
-abbrev pub entry_behind : Table → List ℕ → Tree
-entry_behind Strings key = Octets key
-entry_behind T key = tree (entry T) (read_as (entry T) (merge (entry T) (empty (entry T)) 0 key))
+abbrev pub entry_of : Table → List ℕ → Tree
+entry_of Strings key = Octets key
+entry_of T key = tree (entry T) (read_as (entry T) (merge (entry T) (empty (entry T)) 0 key))
 
 -- the entries of new tables
 abbrev pub new_entries : Keys → Tables
-new_entries keys T = map (entry_behind T) (at keys T)
+new_entries keys T = map (entry_of T) (at keys T)
 
 -- a key is the canonical text of its entry, so different keys stand for different entries
 abbrev pub IsKey : Table → List ℕ → Type 0
-IsKey T key = entry_text T (entry_behind T key) ≡ key
+IsKey T key = entry_text T (entry_of T key) ≡ key
 
 -- ---- what is renumbered
 
@@ -71,4 +71,4 @@ pub record IsSource (old : Dictionary) : Type 0 where
 pub record IsKeyOf (T : Table) (old : Dictionary) (keys : Keys) (place : ℕ) (bytes : List ℕ) : Type 0 where
   pub key : IsKey T bytes
   pub written : Written (entry T) (values (new_entries keys)) (values (new_entries keys))
-      (resolve (old_entries old) (entry T) (entry_at (old_entries old T) (entry T) (Integer (pos place)))) (entry_behind T bytes)
+      (resolve (old_entries old) (entry T) (entry_at (old_entries old T) (entry T) (Integer (pos place)))) (entry_of T bytes)

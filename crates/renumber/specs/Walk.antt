@@ -7,54 +7,55 @@ pub use Rattle.schema.specs.Tables.{every_table}
 use Rattle.meaning.specs.Canonical.{values}
 use Rattle.meaning.specs.Meaning.{resolve, uses}
 use Rattle.meaning.specs.Memo.{Keeps, Knows}
-use Rattle.meaning.specs.Steps.{Ready}
+use Rattle.meaning.specs.Renumbering.{Ready}
 use Rattle.meaning.specs.Tables.{with_new}
 use Rattle.meaning.specs.Tree.{tree}
 use Rattle.dict_rec.specs.declared.dictionary.Dictionary.{Dictionary}
-use Rattle.pb_wire.specs.Tables.{place_of}
-use Rattle.key_tables.specs.Keys.{Begins, Keys, at}
+use Rattle.pb_wire.specs.TableKinds.{place_of}
+use Rattle.key_tables.specs.Keys.{ArePrefixes, Keys, at}
 use Rattle.renumber.specs.Entries.{IsKey, index_into, new_entries, old_entries}
 
 -- ---- the state
 
--- a list for each table: by old index, the new one of each entry that was met
-abbrev pub MetIndexes : Type 0
-MetIndexes = List (List (Option ℕ))
+-- the memo as a list for each table: by old index, the new one of each entry that was met
+abbrev pub MemoLists : Type 0
+MemoLists = List (List (Option ℕ))
 
--- the dictionary of the message, the keys of the new tables, and the new indexes of the entries that were met
+-- the dictionary of the message, the keys of the new tables, and the memo
 pub record State : Type 0 where
   pub source : Dictionary
   pub keys : Keys
-  pub met : MetIndexes
+  pub memo : MemoLists
 
--- The middle of a message with this dictionary: seven tables of keys, whose indexes have 31 bits, and what was met is in them.
-pub record IsReady (old : Dictionary) (keys : Keys) (met : MetIndexes) : Type 0 where
-  pub ready : Ready (old_entries old) (new_entries keys) (at met)
+-- The state in the middle of a message with this dictionary: seven tables of keys, whose indexes have 31 bits, and a memo of
+-- entries that are in them.
+pub record IsReady (old : Dictionary) (keys : Keys) (memo : MemoLists) : Type 0 where
+  pub ready : Ready (old_entries old) (new_entries keys) (at memo)
   pub texts : (T : Table) → Each (IsKey T) (at keys T)
   pub few : (T : Table) → length (at keys T) < 2 ^ 31
   pub seven : length keys ≡ 7
-  pub seven_met : length met ≡ 7
+  pub seven_memo : length memo ≡ 7
 
--- the memo with the new index of one entry more
-abbrev pub noted_in : Table → ℕ → ℕ → MetIndexes → MetIndexes
-noted_in T place new met = set met (place_of T) (set (at met T) place (Some new))
+-- the memo with the new index of one more entry
+abbrev pub noted_in : Table → ℕ → ℕ → MemoLists → MemoLists
+noted_in T place new memo = set memo (place_of T) (set (at memo T) place (Some new))
 
 -- ---- steps
 
 -- how many entries of a table were not met, and how many of all
 abbrev pub unmet_in : List (Option ℕ) → ℕ
 unmet_in [] = 0
-unmet_in (None ∷ news) = suc (unmet_in news)
-unmet_in (Some j ∷ news) = unmet_in news
+unmet_in (None ∷ new_indexes) = suc (unmet_in new_indexes)
+unmet_in (Some j ∷ new_indexes) = unmet_in new_indexes
 
-abbrev pub unmet_of : MetIndexes → ℕ
+abbrev pub unmet_of : MemoLists → ℕ
 unmet_of [] = 0
-unmet_of (news ∷ met) = unmet_in news + unmet_of met
+unmet_of (new_indexes ∷ memo) = unmet_in new_indexes + unmet_of memo
 
 abbrev pub unmet : State → ℕ
-unmet w = unmet_of w.met
+unmet w = unmet_of w.memo
 
--- something holds, unless the test is true
+-- P holds, unless the test is true
 abbrev pub Unless : Bool → Type 0 → Type 0
 Unless true P = Unit {0}
 Unless false P = P
@@ -69,8 +70,8 @@ missed (Err e) = 1
 -- rise, but for the extra steps.
 pub record Moves (s : Shape) (extra : ℕ) (a b : State) (n m : ℕ) : Type 0 where
   pub same : b.source ≡ a.source
-  pub kept : (base : Keys) → Begins base a.keys → Begins base b.keys
-  pub still : Each (λ T. Unless (mentions T s) (at b.met T ≡ at a.met T)) every_table
+  pub kept : (base : Keys) → ArePrefixes base a.keys → ArePrefixes base b.keys
+  pub still : Each (λ T. Unless (mentions T s) (at b.memo T ≡ at a.memo T)) every_table
   pub most : m + unmet b ≤ n + unmet a + extra
 
 -- ---- what was walked over
@@ -80,17 +81,17 @@ pub record Moves (s : Shape) (extra : ℕ) (a b : State) (n m : ℕ) : Type 0 wh
 pub record Walked (s : Shape) (a b : State) (x : Value s) : Type 0 where
   pub same : b.source ≡ a.source
   pub walked : (T : Table) → values (new_entries b.keys) T ≡ with_new (values (new_entries a.keys) T) (uses T s (resolve (old_entries a.source) s (tree s x)))
-  pub keeps : Keeps (at a.met) (at b.met)
-  pub known : Knows (at b.met) s x
+  pub keeps : Keeps (at a.memo) (at b.memo)
+  pub known : Knows (at b.memo) s x
 
 -- and so were the elements of a list
 abbrev pub WalkedEach : (s : Shape) → State → State → List (Value s) → Type 0
 WalkedEach s a b xs = Walked (Many 1 s End) a b (xs, tt)
 
--- an entry stands at the place, and was not met
+-- the place is that of an entry, which was not met
 pub record IsOpen (T : Table) (w : State) (place : ℕ) : Type 0 where
   pub within : place < length (old_entries w.source T)
-  pub free : get_or (at w.met T) place None ≡ None
+  pub free : get_or (at w.memo T) place None ≡ None
 
 -- an index is known, so that walking over it changes nothing, or it is the place of an entry that was not met
 abbrev pub IsUnmet : Table → State → ℤ → Option ℕ → Type 0

@@ -9,31 +9,31 @@ ghost use Rattle.schema.specs.Texts.{items_text};
 ghost use Rattle.meaning.specs.Canonical.{values};
 ghost use Rattle.meaning.specs.Memo.{index_in};
 ghost use Rattle.meaning.specs.Message.{record_text};
-ghost use Rattle.meaning.specs.Steps.{BecomeEach, BeginWithZeros, Stands};
+ghost use Rattle.meaning.specs.Renumbering.{BecomeEach, BeginWithZeros, IsDeduplicated};
 ghost use Rattle.meaning.specs.Tables.{IsSound};
 ghost use Rattle.meaning.specs.Tree.{tree};
 ghost use Rattle.dict_rec.specs.declared.dictionary.Dictionary.{Dictionary};
 ghost use Rattle.key_tables.specs.Keys.{Keys, at};
 ghost use Rattle.renumber.specs.Entries.{IsKey, IsPart, IsSource, new_entries, old_entries};
-ghost use Rattle.renumber.specs.Walk.{IsReady, MetIndexes, State, WalkedEach};
+ghost use Rattle.renumber.specs.Walk.{IsReady, MemoLists, State, WalkedEach};
 
-/// Tables that stand are ready for a message of whose entries none was met.
+/// Deduplicated tables are ready for a message of whose entries none was met.
 pub fn nothing_met_is_ready()
-    ensures { (source : Dictionary) → (keys : Keys) → (met : MetIndexes)
-        → Stands (new_entries keys) → BeginWithZeros (new_entries keys) → ((T : Table) → Each (IsKey T) (at keys T)) → ((T : Table) → length (at keys T) < 2 ^ 31)
-        → length keys ≡ 7 → length met ≡ 7 → ((T : Table) → at met T ≡ replicate (length (old_entries source T)) None) → IsReady source keys met }
+    ensures { (source : Dictionary) → (keys : Keys) → (memo : MemoLists)
+        → IsDeduplicated (new_entries keys) → BeginWithZeros (new_entries keys) → ((T : Table) → Each (IsKey T) (at keys T)) → ((T : Table) → length (at keys T) < 2 ^ 31)
+        → length keys ≡ 7 → length memo ≡ 7 → ((T : Table) → at memo T ≡ replicate (length (old_entries source T)) None) → IsReady source keys memo }
 {}
 
 /// After a walk over values they become, with the new indexes of the memo, what they mean, while the entries grow by exactly what
 /// the walk meets. Their trees are spelled as they are themselves.
 pub fn walked_values_are_renumbered()
-    ensures renumbered { (s : Shape) → IsSound s → (a : State) → (b : State) → IsSource b.source → IsReady b.source b.keys b.met → (xs : List (Value s)) → WalkedEach s a b xs
-        → BecomeEach (old_entries a.source) s (values (new_entries a.keys)) (values (new_entries b.keys)) xs (map (moved (index_in (at b.met)) s) xs) }
+    ensures renumbered { (s : Shape) → IsSound s → (a : State) → (b : State) → IsSource b.source → IsReady b.source b.keys b.memo → (xs : List (Value s)) → WalkedEach s a b xs
+        → BecomeEach (old_entries a.source) s (values (new_entries a.keys)) (values (new_entries b.keys)) xs (map (moved (index_in (at b.memo)) s) xs) }
     ensures spelled { (s : Shape) → (ys : List (Value s)) → map (record_text s) (map (tree s) ys) ≡ map (spell s) ys }
 {}
 
 /// With their new indexes resource records are written in at most five times as many bytes.
 pub fn walked_records_are_short()
-    ensures { (w : State) → IsSource w.source → IsReady w.source w.keys w.met → (rs : List (Value resource_profiles)) → Each (IsPart resource_profiles w.source) rs → (number : ℕ)
-        → length (items_text number (map (spell resource_profiles) (map (moved (index_in (at w.met)) resource_profiles) rs))) ≤ 5 * length (items_text number (map (spell resource_profiles) rs)) }
+    ensures { (w : State) → IsSource w.source → IsReady w.source w.keys w.memo → (rs : List (Value resource_profiles)) → Each (IsPart resource_profiles w.source) rs → (number : ℕ)
+        → length (items_text number (map (spell resource_profiles) (map (moved (index_in (at w.memo)) resource_profiles) rs))) ≤ 5 * length (items_text number (map (spell resource_profiles) rs)) }
 {}

@@ -4,11 +4,11 @@
 mod entries;
 pub mod laws;
 mod meets;
-mod met;
+mod memo;
 mod records;
 mod rows;
 mod walk;
 
 pub use meets::{Entry, Meets};
-pub use met::Met;
+pub use memo::Memo;
 pub use walk::Walk;

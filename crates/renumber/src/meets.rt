@@ -4,7 +4,7 @@ ghost use Rattle.schema.specs.Each.{Each};
 ghost use Rattle.schema.specs.Shape.{Table};
 ghost use Rattle.meaning.specs.Tables.{entry};
 ghost use Rattle.meaning.specs.Tree.{tree};
-ghost use Rattle.pb_wire.specs.Tables.{table_of};
+ghost use Rattle.pb_wire.specs.TableKinds.{table_of};
 ghost use Rattle.renumber.specs.Entries.{IsPart, IsSource, old_entries};
 ghost use Rattle.renumber.specs.Walk.{Moves, Walked, missed};
 

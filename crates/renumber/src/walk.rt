@@ -7,13 +7,13 @@ ghost use Rattle.meaning.specs.Meaning.{entry_at};
 ghost use Rattle.meaning.specs.Memo.{Knows, index_in};
 ghost use Rattle.meaning.specs.Tables.{entry};
 ghost use Rattle.meaning.specs.Tree.{Integer, tree};
-ghost use Rattle.pb_wire.specs.Tables.{table_of};
+ghost use Rattle.pb_wire.specs.TableKinds.{table_of};
 ghost use Rattle.key_tables.specs.Keys.{at};
 ghost use Rattle.renumber.specs.Entries.{IsKeyOf, IsPart, IsSource, index_into, old_entries};
 ghost use Rattle.renumber.specs.Walk.{IsOpen, IsReady, IsUnmet, Moves, Walked, missed};
 
 use crate::meets::{Entry, Meets};
-use crate::met::Met;
+use crate::memo::Memo;
 use dict_rec::Dictionary;
 use key_tables::KeyTables;
 use pb_wire::{Blob, NewIndexes, NoMemory, TableKind, Wire};
@@ -23,13 +23,13 @@ use std::marker::Model;
 use std::sync::ledger::Ledger;
 use tables::{EntryKey, Steps};
 
-/// The dictionary of a message, the tables of a new one, and the new index of each entry that was met. It gives old indexes
-/// their new ones: an index that was not met becomes 0.
+/// The dictionary of a message, the tables of a new one, and the memo. It gives old indexes their new ones: an index that was
+/// not met becomes 0.
 #[derive(Drop)]
 pub struct Walk<'a, S: BuildHasher> {
     source: &'a Dictionary,
     tables: KeyTables<S>,
-    met: Met,
+    memo: Memo,
 }
 
 impl<'a, S: BuildHasher> Model for Walk<'a, S> {
@@ -42,17 +42,17 @@ impl<'a, S: BuildHasher> Model for Walk<'a, S> {
 
     ghost coded = { Prim.hlevel (codes, any_code) };
 
-    ghost view = { λ w. record { source = w.source.now; keys = w.tables; met = w.met } };
+    ghost view = { λ w. record { source = w.source.now; keys = w.tables; memo = w.memo } };
 
-    ghost invariant = { λ w. IsSource w.source.now × IsReady w.source.now w.tables w.met };
+    ghost invariant = { λ w. IsSource w.source.now × IsReady w.source.now w.tables w.memo };
 }
 
 impl<'a, S: BuildHasher + Drop> NewIndexes for Walk<'a, S> {
-    ghost to = { λ w. index_in (at w.met) };
+    ghost to = { λ w. index_in (at w.memo) };
 
     #[inline(always)]
     fn new(&self, table: TableKind, index: &i32) -> i32 {
-        self.met.index(table, index)
+        self.memo.index(table, index)
     }
 }
 
@@ -73,17 +73,17 @@ fn text_with<T: Wire, I: NewIndexes>(
 
 impl<'a, S: BuildHasher + Drop> Walk<'a, S> {
     /// A walk over a message with this dictionary. It takes no memory.
-    pub fn begin(source: &'a Dictionary, tables: KeyTables<S>, met: Met) -> Walk<'a, S>
+    pub fn begin(source: &'a Dictionary, tables: KeyTables<S>, memo: Memo) -> Walk<'a, S>
         requires source { IsSource source.now }
-        requires ready { IsReady source.now tables met }
+        requires ready { IsReady source.now tables memo }
         ensures source { result.source ≡ source.now }
         ensures keys { result.keys ≡ tables }
-        ensures met { result.met ≡ met }
+        ensures memo { result.memo ≡ memo }
     {
         Walk {
             source,
             tables,
-            met,
+            memo,
         }
     }
 
@@ -91,7 +91,7 @@ impl<'a, S: BuildHasher + Drop> Walk<'a, S> {
     pub fn into_tables(self) -> KeyTables<S>
         ensures keys { result ≡ self.entry.keys }
         ensures source { IsSource self.entry.source }
-        ensures ready { IsReady self.entry.source result self.entry.met }
+        ensures ready { IsReady self.entry.source result self.entry.memo }
     {
         let Walk { tables, .. } = self;
         tables
@@ -101,7 +101,7 @@ impl<'a, S: BuildHasher + Drop> Walk<'a, S> {
     pub fn tables(&self) -> &KeyTables<S>
         ensures keys { result.now ≡ self.now.keys }
         ensures source { IsSource self.now.source }
-        ensures ready { IsReady self.now.source self.now.keys self.now.met }
+        ensures ready { IsReady self.now.source self.now.keys self.now.memo }
     {
         // A field of its own opens the invariant here.
         let _source = self.source;
@@ -123,12 +123,12 @@ impl<'a, S: BuildHasher + Drop> Walk<'a, S> {
         requires { IsPart (index_into (table_of kind)) self.now.source index.now }
         ensures { IsUnmet (table_of kind) self.now index.now result }
     {
-        let met = &self.met;
+        let memo = &self.memo;
         if *index == 0 {
             return None;
         }
         let place = *index as usize;
-        match met.get(kind, place) {
+        match memo.get(kind, place) {
             Some(_) => None,
             None => Some(place),
         }
@@ -148,11 +148,11 @@ impl<'a, S: BuildHasher + Drop> Walk<'a, S> {
         ensures walked { OnOk result (Walked (index_into (table_of kind)) self.old self.new (pos place)) }
     {
         let new = self.tables.intern(kind, EntryKey::from_blob(key), steps)?;
-        self.met.note(kind, place, new);
+        self.memo.note(kind, place, new);
         Ok(())
     }
 
-    // Enters an entry, whose indexes are known, that stands at a place.
+    // Enters an entry, whose indexes are known, that is at a place.
     fn enter<E: Entry, L: Ledger>(
         &mut self,
         alloc: Global,
@@ -163,7 +163,7 @@ impl<'a, S: BuildHasher + Drop> Walk<'a, S> {
         requires place { IsOpen E.table self.old place }
         requires here { entry_at (old_entries self.old.source E.table) (entry E.table) (Integer (pos place)) ≡ tree E.shape (E.view found.now) }
         requires part { IsPart E.shape self.old.source (E.view found.now) }
-        requires known { Knows (at self.old.met) E.shape (E.view found.now) }
+        requires known { Knows (at self.old.memo) E.shape (E.view found.now) }
         ensures moves { Moves (index_into E.table) (missed result) self.old self.new steps.old steps.new }
         ensures walked { OnOk result (Walked (index_into E.table) self.old self.new (pos place)) }
     {

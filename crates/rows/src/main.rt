@@ -1,7 +1,7 @@
 //! Runs the tool over files in memory. Each line of the input is a case, and the line of the output in its place says what
 //! came of it. An empty line and one that begins with `#` are copied, so that the output reads by itself.
 //!
-//! A case is a command line and then parts, each behind a `;`:
+//! A case is a command line and then parts, each after a `;`:
 //!
 //! - `NAME=BYTES`: a file that is there before, with its bytes in the notation of the crate `row_text`.
 //! - `then WORDS`: another command line, over the files as the one before left them.
@@ -12,7 +12,7 @@
 //! What comes of a command line is `STATUS; out TEXT; err TEXT; NAME=BYTES`: its status, what it wrote to each of the two
 //! where that is anything, and each file that is new or has other bytes. In a text a line feed is `\n` and a backslash `\\`.
 //!
-//! The line `errors` tells what the errors of the devices, of a draft and of the tool show.
+//! The line `errors` reports what the errors of the devices, of a draft and of the tool show.
 #![tactic(auto)]
 
 mod errors;

@@ -67,7 +67,7 @@ impl<'a> Row<'a> {
     }
 }
 
-// The numbers that stand in a text with a `,` between them.
+// The numbers in a text with a `,` between them.
 fn numbers_of(alloc: Global, text: &str) -> Result<Vec<u64>> {
     let mut numbers = Vec::new(alloc);
     for number in text.split(',') {

@@ -62,7 +62,7 @@ fn add_named_places<'a>(
     Ok(())
 }
 
-// Runs the tool once, and tells its status and what it wrote to the standard output and the standard error.
+// Runs the tool once, and reports its status and what it wrote to the standard output and the standard error.
 fn run_command(
     alloc: Global,
     command: &str,
@@ -82,7 +82,7 @@ fn run_command(
     add_stream(alloc, "err", err.bytes(), text)
 }
 
-// Tells what stands on a stream, if anything does.
+// Reports what is on a stream, if anything is.
 fn add_stream(alloc: Global, name: &str, bytes: &[u8], text: &mut String) -> Result<()> {
     if bytes.is_empty() {
         return Ok(());
@@ -93,7 +93,7 @@ fn add_stream(alloc: Global, name: &str, bytes: &[u8], text: &mut String) -> Res
     Ok(())
 }
 
-// Tells each file that is new or has other bytes than were last seen.
+// Reports each file that is new or has other bytes than were last seen.
 fn add_changes(
     alloc: Global,
     places: &mut [Place<'_>],

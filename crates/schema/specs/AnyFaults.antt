@@ -11,7 +11,7 @@ use Rattle.schema.specs.AnyMember.{Member, TextIn, ItemsIn, PairsIn, member_in}
 abbrev pub TextFault : ℕ → List ℕ → Fault → Type 0
 TextFault at b g = (is_utf8 b ≡ false) × (g ≡ fault_at at NotUtf8)
 
--- the fault of a payload whose bytes lie behind their length, as `Inner` says; any other payload is skipped
+-- the fault of a payload whose bytes lie after their length, as `Inner` says; any other payload is skipped
 abbrev pub LongFault : (ℕ → ℕ → List ℕ → Fault → Type 0) → ℕ → ℕ → Payload → Fault → Type 0
 LongFault Inner at end (Long b) g = Inner at end b g
 LongFault Inner at end payload g = ⊥
@@ -45,7 +45,7 @@ IfMember Inner at end None g = ⊥
 abbrev pub MemberFault : (ℕ → ℕ → List ℕ → Fault → Type 0) → ℕ → ℕ → Field → Fault → Type 0
 MemberFault Inner at end f g = IfMember Inner at end (member_in f) g
 
--- The payload b of an AnyValue, with so many levels left. One that is too deep is not looked into.
+-- The payload b of an AnyValue, with so many levels left. One that is too deep is not parsed.
 abbrev pub AnyFault : ℕ → ℕ → ℕ → List ℕ → Fault → Type 0
 AnyFault zero at end b g = g ≡ fault_at at TooDeep
 AnyFault (suc left) at end b g = FirstFault (MemberFault (AnyFault left)) (end - length b) b g

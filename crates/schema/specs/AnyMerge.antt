@@ -3,7 +3,7 @@
 use Rattle.std.specs.Prelude.{ℕ, zero, suc, ◌-◌, List, [], ◌∷◌, ◌++◌, Option, Some, None, Result, Ok, Err, ◌==◌, if◌then◌else◌}
 use Rattle.schema.specs.Field.{Payload, Long, Field}
 use Rattle.schema.specs.Fault.{TooDeep, Fault, fault_at}
-use Rattle.schema.specs.Steps.{◌>>=◌}
+use Rattle.schema.specs.Decoding.{◌>>=◌}
 use Rattle.schema.specs.Shape.{I64, Flag, number_from}
 use Rattle.schema.specs.Parts.{Part, run_all}
 use Rattle.schema.specs.Run.{message, one_text, text_of}
@@ -43,7 +43,7 @@ pair_at inner at end b = message (take_pair inner) end b ([], AnyValue.Empty)
 
 -- ---- AnyValue
 
--- A member over the value so far: elements come behind those of a value that is the same member, and whatever else there was
+-- A member over the value so far: elements come after those of a value that is the same member, and whatever else there was
 -- is replaced.
 abbrev pub put_member : (ℕ → ℕ → List ℕ → AnyValue → Result AnyValue Fault) → ℕ → ℕ → Member → AnyValue → Result AnyValue Fault
 put_member inner at end (TextIn b) v = text_of at b >>= λ t. Ok (AnyValue.Text t)
@@ -63,7 +63,7 @@ abbrev pub take_member : (ℕ → ℕ → List ℕ → AnyValue → Result AnyVa
 take_member inner at end f v = put_if inner at end (member_in f) v
 
 -- The payload b of an AnyValue, over the value so far, with so many levels left for it and what is inside it. With none left
--- it is too deep, and is not looked into.
+-- it is too deep, and is not parsed.
 unfoldable pub merge_any : ℕ → ℕ → ℕ → List ℕ → AnyValue → Result AnyValue Fault
 merge_any zero at end b v = Err (fault_at at TooDeep)
 merge_any (suc left) at end b v = message (take_member (merge_any left)) end b v
@@ -72,7 +72,7 @@ merge_any (suc left) at end b v = message (take_member (merge_any left)) end b v
 abbrev pub merge_any_all : ℕ → AnyValue → List Part → Result AnyValue Fault
 merge_any_all left v parts = run_all (take_member (merge_any left)) v parts
 
--- The levels that are left for an AnyValue of this depth. One that stands in no other has depth 1, and those of depth 65 are
+-- The levels that are left for an AnyValue of this depth. One that is in no other has depth 1, and those of depth 65 are
 -- too deep.
 abbrev pub any_levels : ℕ → ℕ
 any_levels depth = 65 - depth

@@ -2,7 +2,7 @@
 use Rattle.std.specs.Prelude.{◌≡◌, ℕ, zero, suc, pos, List, [], ◌∷◌, length, true, false, Result, Ok, Err, refl}
 use Rattle.schema.specs.Fault.{TooDeep, Fault, fault_at}
 use Rattle.schema.specs.Run.{run}
-use Rattle.schema.specs.Steps.{varint_at, payload_at, field_at, trace_upto}
+use Rattle.schema.specs.Decoding.{varint_at, payload_at, field_at, trace_upto}
 use Rattle.schema.specs.Texts.{varint_upto, long_field, bytes_field}
 use Rattle.schema.specs.AnyValue.{AnyValue, items, pairs}
 use Rattle.schema.specs.AnyMerge.{merge_any}
@@ -46,7 +46,7 @@ member_between : read 64 (42 ∷ 2 ∷ 10 ∷ 0 ∷ 24 ∷ 5 ∷ 42 ∷ 2 ∷ 10
 unfolding merge_any run trace_upto field_at payload_at varint_at
 member_between = refl
 
--- a value that comes twice behind its key is that of the joined payloads, and a key without a value has `Empty`
+-- a value that comes twice after its key is that of the joined payloads, and a key without a value has `Empty`
 keys : read 64 (50 ∷ 18 ∷ 10 ∷ 14 ∷ 18 ∷ 4 ∷ 42 ∷ 2 ∷ 10 ∷ 0 ∷ 18 ∷ 6 ∷ 42 ∷ 4 ∷ 10 ∷ 2 ∷ 16 ∷ 1 ∷ 10 ∷ 0 ∷ [])
     ≡ Ok (pairs (([], items (AnyValue.Empty ∷ AnyValue.Flag true ∷ [])) ∷ ([], AnyValue.Empty) ∷ []))
 unfolding merge_any run trace_upto field_at payload_at varint_at
@@ -59,7 +59,7 @@ too_deep : read 1 (42 ∷ 2 ∷ 10 ∷ 0 ∷ []) ≡ Err (fault_at 2 TooDeep)
 unfolding merge_any run trace_upto field_at payload_at varint_at
 too_deep = refl
 
--- nor an empty value behind a key
+-- nor an empty value after a key
 value_too_deep : read 1 (50 ∷ 4 ∷ 10 ∷ 2 ∷ 18 ∷ 0 ∷ []) ≡ Err (fault_at 4 TooDeep)
 unfolding merge_any run trace_upto field_at payload_at varint_at
 value_too_deep = refl

@@ -1,6 +1,6 @@
 -- The first fault of a byte list, where a relation says which payloads have a fault. The bytes are x . y, where x spells
 -- fields none of whose payloads has a fault, and y begins with a bad field, or with a field whose payload has a fault at its
--- own offset. Payloads that a later occurrence overrides are looked into, and skipped ones are not.
+-- own offset. Payloads that a later occurrence overrides are parsed, and skipped ones are not.
 use Rattle.std.specs.Prelude.{◌≡◌, ℕ, ◌+◌, ◌*◌, ◌<◌, ◌≤◌, List, ◌∷◌, ◌++◌, length, ◌⊎◌}
 use Rattle.schema.specs.Each.{Each}
 use Rattle.schema.specs.Fault.{Reason, Truncated, VarintLong, FieldNumber, WireType, PackedLength, Fault}
@@ -35,7 +35,7 @@ pub data BadField (bytes : List ℕ) : Reason → Type 0 where
       → (kind ≡ 3) ⊎ ((kind ≡ 4) ⊎ ((kind ≡ 6) ⊎ (kind ≡ 7))) → BadField bytes WireType
   bad_payload : (r : Reason) (n kind : ℕ) (rest : List ℕ) → Tagged bytes n kind rest → 1 ≤ n → n ≤ greatest_number → BadPayload kind rest r → BadField bytes r
 
--- packed varints whose first bad one, behind right ones, has this reason
+-- packed varints whose first bad one, after right ones, has this reason
 pub record BadPacked (bytes : List ℕ) (r : Reason) : Type 0 where
   pub before : List ℕ
   pub after : List ℕ

@@ -1,7 +1,8 @@
 pub mod Each
+pub mod Prefix
 pub mod Field
 pub mod Fault
-pub mod Steps
+pub mod Decoding
 pub mod Run
 pub mod AnyValue
 pub mod Shape

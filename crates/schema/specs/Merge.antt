@@ -4,7 +4,7 @@ use Rattle.std.specs.Prelude.{ℕ, zero, suc, ◌-◌, ◌/◌, ◌%◌, List, [
 use Rattle.std.specs.Int.{w64, from_le_bytes}
 use Rattle.schema.specs.Field.{Payload, Varint, Eight, Long, Field}
 use Rattle.schema.specs.Fault.{Reason, Truncated, PackedLength, Fault, fault_at}
-use Rattle.schema.specs.Steps.{◌>>=◌, varint_at, trace}
+use Rattle.schema.specs.Decoding.{◌>>=◌, varint_at, trace}
 use Rattle.schema.specs.Run.{run, text_of, one_text}
 use Rattle.schema.specs.Parts.{Part, run_all}
 use Rattle.schema.specs.Shape.{Shape, Number, Fixed, Bytes, Text, Any, Index, End, One, Many, Format, I32, NumberValue, Value, number_from, empty}
@@ -67,7 +67,7 @@ take_one (One n k rest) inside at end (Long b) v = run inside v (trace (end - le
 take_one (Many n k rest) inside at end (Long b) v = run inside v (trace (end - length b) b)
 take_one s inside at end payload v = Ok v
 
--- ---- an occurrence of a repeated row, whose elements come behind those so far
+-- ---- an occurrence of a repeated row, whose elements come after those so far
 
 abbrev pub more_packed : (w : Format) → ℕ → List ℕ → List (NumberValue w) → Result (List (NumberValue w)) Fault
 more_packed w at b vs = at_place at (packed w b) >>= λ ns. Ok (vs ++ ns)

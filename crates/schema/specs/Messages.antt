@@ -1,6 +1,6 @@
 -- The schema: the messages of the OpenTelemetry Profiles signal, a line a message. It is after
 -- opentelemetry-proto 1.9.0 (`common/v1`, `resource/v1`, `profiles/v1development` and its collector service), which is
--- under development; this table alone decides the fields and their numbers. A field's name stands in the comment.
+-- under development; this table alone decides the fields and their numbers. A field's name is in the comment.
 use Rattle.std.specs.Prelude.{ℕ, List}
 use Rattle.schema.specs.Shape.{Shape, Value, Number, Fixed, Bytes, Text, Any, Index, End, One, Many, U32, U64, I32, I64, Table, Mappings, Locations, Functions, Links, Strings, Attributes, Stacks}
 

@@ -9,7 +9,7 @@ use Rattle.schema.specs.Fault.{Fault}
 use Rattle.schema.specs.FirstFault.{FirstFault, Sound}
 use Rattle.schema.specs.Run.{run}
 use Rattle.schema.specs.Spelling.{Spells}
-use Rattle.schema.specs.Steps.{◌>>=◌, trace}
+use Rattle.schema.specs.Decoding.{◌>>=◌, trace}
 
 -- the bytes of a part, and where they begin
 pub record Part : Type 0 where

@@ -3,7 +3,7 @@ use Rattle.std.specs.Prelude.{ℕ, ◌-◌, List, length, Result, Ok, Err, if◌
 use Rattle.std.specs.Str.{is_utf8}
 use Rattle.schema.specs.Field.{Payload, Long, Field}
 use Rattle.schema.specs.Fault.{NotUtf8, Fault, fault_at}
-use Rattle.schema.specs.Steps.{◌>>=◌, Trace, Done, Bad, Met, trace}
+use Rattle.schema.specs.Decoding.{◌>>=◌, Trace, Done, Bad, Met, trace}
 
 -- goes over the fields from left to right
 unfoldable pub run : {S : Type 0} → (ℕ → ℕ → Field → S → Result S Fault) → S → Trace → Result S Fault

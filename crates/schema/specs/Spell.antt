@@ -37,7 +37,7 @@ spell End v = []
 spell (One n k rest) v = spell_one k (spell k) n v.0 ++ spell rest v.1
 spell (Many n k rest) v = spell_many k (spell k) n v.0 ++ spell rest v.1
 
--- the same, row after row behind a text, as a program appends it
+-- the same, row after row at the end of a text, as a program appends it
 abbrev pub spell_onto : (s : Shape) → List ℕ → Value s → List ℕ
 spell_onto (Number w) out v = out
 spell_onto Fixed out v = out

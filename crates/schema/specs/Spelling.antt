@@ -3,7 +3,7 @@
 use Rattle.std.specs.Prelude.{◌≡◌, ℕ, suc, ◌+◌, ◌*◌, ◌%◌, ◌^◌, ◌<◌, ◌≤◌, List, [], ◌∷◌, ◌++◌, length}
 use Rattle.schema.specs.Each.{Each}
 use Rattle.schema.specs.Field.{Payload, Varint, Eight, Long, Four, Field, wire_type, greatest_number}
-use Rattle.schema.specs.Steps.{Trace, Done, Met}
+use Rattle.schema.specs.Decoding.{Trace, Done, Met}
 
 -- the sum of (byte mod 128) * 128 ^ place, from this place on
 abbrev pub digits : ℕ → List ℕ → ℕ
@@ -61,23 +61,23 @@ SpellsEights bytes (b ∷ bs) = (others : List ℕ) × (bytes ≡ b ++ others) �
 -- ---- fields at their places
 
 -- a field, where its tag begins, and where its payload ends
-pub record Placed : Type 0 where
+pub record PlacedField : Type 0 where
   pub at : ℕ
   pub end : ℕ
   pub field : Field
 
 -- the bytes, which begin at base, spell the fields, which lie at these places
-abbrev pub SpellsAt : ℕ → List ℕ → List Placed → Type 0
+abbrev pub SpellsAt : ℕ → List ℕ → List PlacedField → Type 0
 SpellsAt base bytes [] = bytes ≡ []
 SpellsAt base bytes (p ∷ ps) =
     (one : List ℕ) × (others : List ℕ) × (bytes ≡ one ++ others) × SpellsField one p.field
     × (p.at ≡ base) × (p.end ≡ base + length one) × SpellsAt (base + length one) others ps
 
-abbrev pub fields_of : List Placed → List Field
+abbrev pub fields_of : List PlacedField → List Field
 fields_of [] = []
 fields_of (p ∷ ps) = p.field ∷ fields_of ps
 
 -- the trace that ends after these fields
-abbrev pub trace_of : List Placed → Trace
+abbrev pub trace_of : List PlacedField → Trace
 trace_of [] = Done
 trace_of (p ∷ ps) = Met p.at p.end p.field (trace_of ps)

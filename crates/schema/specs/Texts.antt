@@ -26,7 +26,7 @@ number_to Flag b = if b then 1 else 0
 abbrev pub FitsNumber : (w : Format) → NumberValue w → Type 0
 FitsNumber w x = (number_to w x < 2 ^ 64) × (number_from w (number_to w x) ≡ x)
 
--- the fields of a singular number, which is not 0, of bytes behind their length, and of such bytes that are not empty
+-- the fields of a singular number, which is not 0, of bytes after their length, and of such bytes that are not empty
 unfoldable pub number_field : ℕ → ℕ → List ℕ
 number_field n v = if v == 0 then [] else varint (n * 8) ++ varint v
 
@@ -39,7 +39,7 @@ long_field n b = varint (n * 8 + 2) ++ varint (length b) ++ b
 unfoldable pub bytes_field : ℕ → List ℕ → List ℕ
 bytes_field n b = if length b == 0 then [] else long_field n b
 
--- packed numbers, packed eight-byte values, and elements each behind its own tag and length
+-- packed numbers, packed eight-byte values, and elements each after its own tag and length
 abbrev pub numbers_text : (w : Format) → List (NumberValue w) → List ℕ
 numbers_text w vs = flat_map (λ v. varint (number_to w v)) vs
 

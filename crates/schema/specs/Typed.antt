@@ -61,7 +61,7 @@ abbrev pub EachHasLevels : (k : Shape) → List (Value k) → Type 0
 EachHasLevels (Any depth) vs = Each (HasLevels (any_levels depth)) vs
 EachHasLevels k vs = Unit {0}
 
--- no AnyValue in the value of a shape is deeper than a file may have it, 64 levels where it stands in no other
+-- no AnyValue in the value of a shape is deeper than a file may have it, 64 levels where it is in no other
 abbrev pub IsShallow : (s : Shape) → Value s → Type 0
 IsShallow (Any depth) x = (x ≡ AnyValue.Empty) ⊎ HasLevels (any_levels depth) x
 IsShallow (One n k rest) x = IsShallow k x.0 × IsShallow rest x.1

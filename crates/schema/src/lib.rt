@@ -1,13 +1,13 @@
 //! The schema of the OpenTelemetry Profiles messages as data, and what reading and writing by it mean. Every definition is
-//! in `specs/`, by recursion on a message's shape; the laws about them stand in `schema_laws`.
+//! in `specs/`, by recursion on a message's shape; the laws about them are in `schema_laws`.
 #![tactic(auto)]
 
 ghost use Rattle.std.specs.Prelude.{◌≡◌, true};
 ghost use Rattle.schema.specs.Fits.{ascends, is_lawful};
 ghost use Rattle.schema.specs.Messages.{envelope, dictionary, resource_profiles, resource, scope_profiles, scope, profile, sample, value_type, link, stack, mapping, location, line, function, attribute, key_value, partial_success, export_response, rpc_status};
 
-/// In each message of the schema no two fields have one number, and each number is one that a tag can hold. An index and an
-/// AnyValue are not looked into, so each message is named.
+/// In each message of the schema the field numbers are distinct, and each is one that a tag can hold. The test does
+/// not enter an index or an AnyValue, so each message is named.
 pub fn table_is_lawful()
     ensures envelope { is_lawful envelope ≡ true }
     ensures dictionary { is_lawful dictionary ≡ true }

@@ -22,7 +22,7 @@ use Rattle.schema_laws.proofs.Ranges.{FieldInRange, PayloadInRange, field_cost, 
 use Rattle.schema_laws.proofs.Growing.{Grows, StepKeeps, becomes, message_grows, stays, text_keeps, item_grows, row_keeps, run_keeps}
 use Rattle.schema_laws.proofs.Lengths.{varint_field_len, bytes_field_le, eight_field_len, long_field_le, long_field_len}
 use Rattle.schema_laws.proofs.AnyLists.{element_text, list_back, pair_list_back, pairs_spelled, values_spelled}
-use Rattle.schema_laws.proofs.AnyBack.{any_again}
+use Rattle.schema_laws.proofs.AnyReadingBack.{any_again}
 use Rattle.schema.specs.Parts.{Part, joined}
 use Rattle.schema_laws.proofs.Parts.{parts_keep}
 
@@ -32,7 +32,7 @@ any_size v = length (any_text v)
 
 -- ---- lists of elements
 
--- the length of elements, each behind its tag and length
+-- the length of elements, each after its tag and length
 abbrev pub numbered_size : {A : Type 0} → ℕ → (A → List ℕ) → List A → ℕ
 numbered_size n text xs = length (flat_map (λ x. long_field n (text x)) xs)
 
@@ -136,7 +136,7 @@ eight_holds : (make : List ℕ → Member) → ((b : List ℕ) → length b ≡ 
 eight_holds make h (Eight b) r = h b r.1
 eight_holds make h p r = tt
 
--- and of bytes behind their length
+-- and of bytes after their length
 long_holds : (make : List ℕ → Member) → ((b : List ℕ) → Octets b → IfHolds (length b + 2) (Some (make b))) → (p : Payload) → PayloadInRange p → IfHolds (field_cost p) (if_long make p)
 long_holds make h (Long b) r = h b r
 long_holds make h p r = tt
@@ -169,7 +169,7 @@ module _ (inner : ℕ → ℕ → List ℕ → AnyValue → Result AnyValue Faul
   abbrev ValueIn : AnyValue → Type 0
   ValueIn v = (v ≡ AnyValue.Empty) ⊎ In v
 
-  -- a value that is left out where it is Empty, as that behind a key
+  -- a value that is left out where it is Empty, as that after a key
   pub go_on_keeps : (n : ℕ) → n ≤ greatest_number → (at end : ℕ) (p : Payload) (u v : AnyValue) → PayloadInRange p → ValueIn u → length (bytes_field n (any_text u)) + 16 * field_cost p < 2 ^ 64
       → go_on inner at end p u ≡ Ok v → Grows ValueIn (λ x. length (bytes_field n (any_text x))) u (field_cost p) v
   go_on_keeps n le at end (Long b) u v r i room e =

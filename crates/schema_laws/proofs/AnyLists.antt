@@ -36,7 +36,7 @@ pair_list_back (x ∷ xs) = ap (λ (l : List KeyValue). x ∷ l) (pair_list_back
 abbrev pub element_text : KeyValue → List ℕ
 element_text kv = pair_text kv.0 (any_text kv.1)
 
--- each element is behind its own tag and length
+-- each element is after its own tag and length
 pub values_spelled : (vs : Values) → values_text vs ≡ flat_map (λ v. long_field 1 (any_text v)) (list_of vs)
 values_spelled NoValues = refl
 values_spelled (AddValue v vs) = ap (λ (t : List ℕ). long_field 1 (any_text v) ++ t) (values_spelled vs)

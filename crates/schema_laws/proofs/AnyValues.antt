@@ -8,7 +8,7 @@ use Rattle.std.proofs.lemmas.List.{append-nil}
 use Rattle.schema.specs.Field.{Field, Long, Payload}
 use Rattle.schema.specs.Fault.{Fault, NotUtf8, fault_at}
 use Rattle.schema.specs.Run.{one_text, text_of, message}
-use Rattle.schema.specs.Steps.{◌>>=◌, trace}
+use Rattle.schema.specs.Decoding.{◌>>=◌, trace}
 use Rattle.schema.specs.Shape.{I64, Flag, number_from}
 use Rattle.schema.specs.RowValue.{bytes_in, of_number}
 use Rattle.schema.specs.AnyValue.{AnyValue, KeyValue, items, items_in, pairs, pairs_in}
@@ -89,7 +89,7 @@ module _ (inner : ℕ → ℕ → List ℕ → AnyValue → Result AnyValue Faul
   pub item_gives : ElementGives (item_at inner) (pure AnyValue.Empty)
   item_gives at end b x e = ap (pure AnyValue.Empty) (sym (append-nil (fields (trace 0 b)))) ∙ gives at end b AnyValue.Empty x [] e ∙ nil x
 
-  -- the value behind a key
+  -- the value after a key
   pub go_on_gives : (at end : ℕ) (p : Payload) (ps : List Payload) (u v : AnyValue) → go_on inner at end p u ≡ Ok v → pure u (flat_map inside (p ∷ ps)) ≡ pure v (flat_map inside ps)
   go_on_gives at end (Long b) ps u v e = gives at end b u v (flat_map inside ps) e
   go_on_gives at end p ps u v e = ap (λ (x : AnyValue). pure x (flat_map inside ps)) (ok_is u v e)

@@ -5,7 +5,7 @@ use Rattle.std.proofs.lemmas.List.{length-take, take-append-drop, nil_from_lengt
 use Rattle.schema.specs.Merge.{fixed_upto, packed_fixed}
 use Rattle.schema.specs.Spelling.{SpellsEights}
 use Rattle.schema_laws.proofs.Rows.{fixed_nothing}
-use Rattle.schema_laws.proofs.Fixed.{fixed_front}
+use Rattle.schema_laws.proofs.FixedNumbers.{fixed_front}
 
 -- one value more
 fixed_more : (k : ℕ) (b : List ℕ) → fixed_upto (suc k) b ≡ from_le_bytes w64 (take 8 b) ∷ fixed_upto k (drop 8 b)

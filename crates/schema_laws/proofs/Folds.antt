@@ -5,7 +5,7 @@ use Rattle.std.specs.List.{flat_map}
 use Rattle.std.specs.Str.{is_utf8}
 use Rattle.schema.specs.Field.{Field, Long, Payload}
 use Rattle.schema.specs.Fault.{Fault, NotUtf8, Reason, fault_at}
-use Rattle.schema.specs.Steps.{Bad, Done, Met, Trace, field_at, met, trace, trace_upto}
+use Rattle.schema.specs.Decoding.{Bad, Done, Met, Trace, field_at, met, trace, trace_upto}
 use Rattle.schema.specs.Run.{one_text, run}
 use Rattle.schema.specs.RowValue.{bytes_in}
 use Rattle.schema_laws.proofs.Results.{ok_is, bind_ok, checked_ok}
@@ -13,12 +13,12 @@ use Rattle.schema_laws.proofs.Traces.{fields}
 
 -- ---- what payloads say
 
--- what is said, and else what stood before
+-- what is said, and else what was there before
 abbrev pub or_else : {A : Type 0} → Option A → A → A
 or_else (Some x) u = x
 or_else None u = u
 
--- what the last payload says that fits, and else what stood before
+-- what the last payload says that fits, and else what was there before
 abbrev pub last_said : {A : Type 0} → (Payload → Option A) → List Payload → A → A
 last_said said [] u = u
 last_said said (p ∷ ps) u = last_said said ps (or_else (said p) u)

@@ -4,7 +4,7 @@ use Rattle.std.specs.Prelude.{nat_lt, ◌==◌}
 use Rattle.std.proofs.lemmas.Bool.{cases_lt, lt-ltb, le-ltb, ne_eqb}
 use Rattle.std.proofs.lemmas.List.{take_at, drop_at}
 use Rattle.schema.specs.Field.{Varint, Eight, Long, greatest_number}
-use Rattle.schema.specs.Steps.{◌>>=◌, varint_at, bytes_at, payload_at, field_at}
+use Rattle.schema.specs.Decoding.{◌>>=◌, varint_at, bytes_at, payload_at, field_at}
 use Rattle.schema.specs.Texts.{varint, long_field}
 use Rattle.schema_laws.proofs.Onto.{varint_small, varint_large}
 
@@ -62,7 +62,7 @@ unfolding payload_at
 eight_again n b rest some few len =
     ap field_at (append_assoc (varint (n * 8 + 1)) b rest) ∙ tag_again n 1 (b ++ rest) some few (omega arith) ∙ rw (bytes_again 8 b rest len) refl
 
--- a field of bytes behind their length is read
+-- a field of bytes after their length is read
 pub long_again : (n : ℕ) (b rest : List ℕ) → 0 < n → n < 2 ^ 29 → length b < 2 ^ 64
     → field_at (long_field n b ++ rest) ≡ Ok (record { number = n; payload = Long b }, rest)
 unfolding payload_at long_field

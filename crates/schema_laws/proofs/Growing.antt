@@ -3,13 +3,13 @@ use Rattle.std.proofs.Common.{◌≡◌, ℕ, zero, suc, ◌+◌, ◌*◌, ◌^�
 use Rattle.std.specs.Str.{is_utf8}
 use Rattle.schema.specs.Field.{Field, Long, Payload, greatest_number}
 use Rattle.schema.specs.Fault.{Fault, NotUtf8, fault_at}
-use Rattle.schema.specs.Steps.{trace, ◌>>=◌}
+use Rattle.schema.specs.Decoding.{trace, ◌>>=◌}
 use Rattle.schema.specs.Merge.{one_bytes}
 use Rattle.schema.specs.Run.{one_text, run}
 use Rattle.schema.specs.Texts.{bytes_field, long_field}
 use Rattle.schema_laws.proofs.Results.{ok_is, bind_ok, checked_ok}
 use Rattle.schema_laws.proofs.Traces.{trace_end}
-use Rattle.schema_laws.proofs.Spelled.{Begins, begins}
+use Rattle.schema_laws.proofs.FieldLists.{Start, begins}
 use Rattle.schema_laws.proofs.Lists.{Octets, each_left, each_right}
 use Rattle.schema_laws.proofs.Ranges.{FieldInRange, field_cost, field_in_range}
 use Rattle.schema_laws.proofs.Lengths.{long_field_len, bytes_field_len, bytes_field_le}
@@ -37,14 +37,14 @@ StepKeeps {S = S} step In size = (at end : ℕ) (f : Field) (u v : S) → FieldI
 
 module _ {S : Type 0} (step : ℕ → ℕ → Field → S → Result S Fault) (In : S → Type 0) (measure : S → ℕ) (keep : StepKeeps step In measure) where
   -- fields that are read keep the value in its range, by the first one
-  keeps_step : (base : ℕ) (bytes : List ℕ) (u v : S) → Begins base bytes
+  keeps_step : (base : ℕ) (bytes : List ℕ) (u v : S) → Start base bytes
       → ((b : ℕ) (rest : List ℕ) (w : S) → length rest < length bytes → Octets rest → In w → measure w + 16 * length rest < 2 ^ 64 → run step w (trace b rest) ≡ Ok v → Grows In measure w (length rest) v)
       → Octets bytes → In u → measure u + 16 * length bytes < 2 ^ 64 → run step u (trace base bytes) ≡ Ok v → Grows In measure u (length bytes) v
   unfolding run
-  keeps_step base bytes u v (Begins.over n) ih o i room e =
+  keeps_step base bytes u v (Start.over n) ih o i room e =
       stays In measure u v (length bytes) (ok_is u v (ap (run step u) (sym (trace_end base bytes (ap length n))) ∙ e)) i
-  keeps_step base bytes u v (Begins.bad r b q) ih o i room e = let d = ap (run step u) (sym q) ∙ e in absurd cc
-  keeps_step base bytes u v (Begins.met_one one rest f is sp lt q) ih o i room e =
+  keeps_step base bytes u v (Start.bad r b q) ih o i room e = let d = ap (run step u) (sym q) ∙ e in absurd cc
+  keeps_step base bytes u v (Start.met_one one rest f is sp lt q) ih o i room e =
       let x = bind_ok (step base (base + length one) f u) (λ w. run step w (trace (base + length one) rest)) v (ap (run step u) (sym q) ∙ e) in
       let both = subst Octets is o in
       let r = field_in_range one f sp (each_left (λ n. n < 256) one rest both) in
@@ -93,7 +93,7 @@ pub message_grows : (n : ℕ) → n ≤ greatest_number → (a c : List ℕ) (mo
     → length (bytes_field n c) ≤ length (bytes_field n a) + 16 * (more + 2)
 message_grows n le a c more room h = let g = bytes_field_le n a in let l = bytes_field_len n c le (omega arith) in omega arith
 
--- one more element behind a tag and a length
+-- one more element after a tag and a length
 pub item_grows : (n : ℕ) → n ≤ greatest_number → (a b c : List ℕ) (cost : ℕ) → c ≡ a ++ (long_field n b ++ []) → 20 + length b ≤ 16 * cost → 16 * cost < 2 ^ 64
     → length c ≤ length a + 16 * cost
 item_grows n le a b c cost e short room =
@@ -102,17 +102,17 @@ item_grows n le a b c cost e short room =
 
 -- ---- rows
 
--- where the row grows and the rows behind it stay, both grow so
+-- where the row grows and the rows after it stay, both grow so
 row_first : {A B : Type 0} (In : A → Type 0) (RestIn : B → Type 0) (text : A → List ℕ) (more : B → List ℕ) (u : A) (cost : ℕ) (v : A) (b : B) → Grows In (λ x. length (text x)) u cost v → RestIn b
     → In v × RestIn b × (length (text v ++ more b) ≤ length (text u ++ more b) + 16 * cost)
 row_first In RestIn text more u cost v b g j = let h = g.1 in (g.0, j, omega (arith, length-append (text v) (more b), length-append (text u) (more b)))
 
--- and where the rows behind it grow
+-- and where the rows after it grow
 row_rest : {A B : Type 0} (In : A → Type 0) (RestIn : B → Type 0) (text : A → List ℕ) (more : B → List ℕ) (a : A) (u : B) (cost : ℕ) (v : B) → Grows RestIn (λ x. length (more x)) u cost v → In a
     → In a × RestIn v × (length (text a ++ more v) ≤ length (text a ++ more u) + 16 * cost)
 row_rest In RestIn text more a u cost v g j = let h = g.1 in (j, g.0, omega (arith, length-append (text a) (more v), length-append (text a) (more u)))
 
--- a row, and the rows behind it
+-- a row, and the rows after it
 pub row_keeps : {A B : Type 0} (In : A → Type 0) (RestIn : B → Type 0) (text : A → List ℕ) (more : B → List ℕ) (t : Bool) (here : Result A Fault) (there : Result B Fault) (a : A) (b : B) (cost : ℕ) (v : A × B)
     → In a → RestIn b → length (text a ++ more b) + 16 * cost < 2 ^ 64
     → (t ≡ true → (x : A) → length (text a) + 16 * cost < 2 ^ 64 → here ≡ Ok x → Grows In (λ x. length (text x)) a cost x)

@@ -9,7 +9,7 @@ use Rattle.std.proofs.lemmas.Grind.{flat_map-append}
 use Rattle.std.proofs.lemmas.List.{map-append}
 use Rattle.schema.specs.Field.{Eight, Long, Payload, Varint, greatest_number}
 use Rattle.schema.specs.Fault.{NotUtf8, PackedLength, Reason, fault_at}
-use Rattle.schema.specs.Steps.{◌>>=◌}
+use Rattle.schema.specs.Decoding.{◌>>=◌}
 use Rattle.schema.specs.Shape.{Any, Bytes, Fixed, Flag, Format, I32, I64, Index, IsMessage, Many, Number, NumberValue, One, Shape, Text, U32, U64, Value, empty, number_from, number_zero}
 use Rattle.schema.specs.Merge.{at_place, merge, packed, packed_fixed, more_bytes, more_fixed, take_many, more_numbers, take_one, more_texts, take_field}
 use Rattle.schema.specs.Run.{text_of}
@@ -19,8 +19,8 @@ use Rattle.schema.specs.Each.{Each}
 use Rattle.schema_laws.proofs.Results.{ok_is, bind_ok, checked_ok}
 use Rattle.schema_laws.proofs.Onto.{varint_at_most}
 use Rattle.schema_laws.proofs.Rows.{take_many_message, take_many_short}
-use Rattle.schema_laws.proofs.Fixed.{fixed_len}
-use Rattle.schema_laws.proofs.Packed.{packed_right}
+use Rattle.schema_laws.proofs.FixedNumbers.{fixed_len}
+use Rattle.schema_laws.proofs.PackedNumbers.{packed_right}
 use Rattle.schema_laws.proofs.Lists.{each_append}
 use Rattle.schema_laws.proofs.Ranges.{number_fits, numbers_fit, fixed_below, eights_fit, PayloadInRange, field_cost}
 use Rattle.schema_laws.proofs.Lengths.{bytes_field_len, bytes_field_le, each_as}
@@ -50,7 +50,7 @@ numbers_len w (v ∷ vs) i =
     let b = numbers_len w vs i.1 in
     omega (arith, length-append (varint (number_to w v)) (numbers_text w vs))
 
--- numbers that come behind others
+-- numbers that come after others
 numbers_grow : (w : Format) (n : ℕ) → n ≤ greatest_number → (us ns vs : List (NumberValue w)) (cost : ℕ) → us ++ ns ≡ vs → Each (FitsNumber w) us → Each (FitsNumber w) ns → 20 + 10 * length ns ≤ 16 * cost
     → length (bytes_field n (numbers_text w us)) + 16 * cost < 2 ^ 64 → Grows (Each (FitsNumber w)) (λ xs. length (bytes_field n (numbers_text w xs))) us cost vs
 numbers_grow w n le us ns vs cost e i j short room =
@@ -84,7 +84,7 @@ numbers_keep w n le at p us vs r i room e = stays (Each (FitsNumber w)) (λ xs. 
 abbrev Fixeds : List ℕ → Type 0
 Fixeds vs = Each (λ v. v < 2 ^ 64) vs
 
--- eight-byte values that come behind others
+-- eight-byte values that come after others
 fixed_grow : (n : ℕ) → n ≤ greatest_number → (us ns vs : List ℕ) (cost : ℕ) → us ++ ns ≡ vs → Fixeds us → Fixeds ns → 20 + 8 * length ns ≤ 16 * cost
     → length (bytes_field n (fixed_text us)) + 16 * cost < 2 ^ 64 → Grows Fixeds (λ xs. length (bytes_field n (fixed_text xs))) us cost vs
 fixed_grow n le us ns vs cost e i j short room =
@@ -106,7 +106,7 @@ fixed_keep n le at p us vs r i room e = stays Fixeds (λ xs. length (bytes_field
 
 -- ---- bytes and texts
 
--- an element that comes behind others
+-- an element that comes after others
 items_grow : (In : List ℕ → Type 0) (n : ℕ) → n ≤ greatest_number → (us vs : List (List ℕ)) (b : List ℕ) → us ++ b ∷ [] ≡ vs → Each In us → In b → 16 * (length b + 2) < 2 ^ 64
     → Grows (Each In) (λ xs. length (items_text n xs)) us (length b + 2) vs
 items_grow In n le us vs b e i j room =
@@ -154,7 +154,7 @@ also : {A : Type 0} (P : List A → Type 0) (length_of : List A → ℕ) (us : L
     → (P vs × Unit {0}) × (length_of vs ≤ length_of us + 16 * cost)
 also P length_of us cost vs g = ((g.0, tt), g.1)
 
--- AnyValues that are written may stand in a row
+-- AnyValues that are written may be in a row
 each_written : (left : ℕ) (vs : List AnyValue) → Each (AnyInRange left) vs → Each (λ v. (v ≡ AnyValue.Empty) ⊎ AnyInRange left v) vs
 each_written left vs i = each_as (AnyInRange left) (λ v. (v ≡ AnyValue.Empty) ⊎ AnyInRange left v) (λ v j. inr j) vs i
 

@@ -6,12 +6,12 @@ use Rattle.schema.specs.Each.{Each}
 use Rattle.schema.specs.RowValue.{IsLast}
 use Rattle.schema_laws.proofs.Folds.{or_else, last_said}
 
--- where none fits, it is what stood before
+-- where none fits, it is what was there before
 last_none : {A : Type 0} (said : Payload → Option A) (ps : List Payload) (u : A) → Each (λ p. said p ≡ None) ps → last_said said ps u ≡ u
 last_none said [] u h = refl
 last_none {A} said (p ∷ ps) u h = ap (λ (o : Option A). last_said said ps (or_else o u)) h.0 ∙ last_none said ps u h.1
 
--- where one fits and none behind it, it is what that one says
+-- where one fits and none after it, it is what that one says
 last_at : {A : Type 0} (said : Payload → Option A) (before : List Payload) (last : Payload) (after : List Payload) (u v : A)
     → said last ≡ Some v → Each (λ p. said p ≡ None) after → last_said said (before ++ last ∷ after) u ≡ v
 last_at {A} said [] last after u v e none = ap (λ (o : Option A). last_said said after (or_else o u)) e ∙ last_none said after v none

@@ -7,10 +7,10 @@ use Rattle.schema.specs.Field.{greatest_number}
 use Rattle.schema.specs.Texts.{bytes_field, fixed_field, long_field, number_field, varint}
 use Rattle.schema.specs.Each.{Each}
 use Rattle.schema_laws.proofs.Onto.{varint_at_most, long_len}
-use Rattle.schema_laws.proofs.Fixed.{eight_len}
+use Rattle.schema_laws.proofs.FixedNumbers.{eight_len}
 use Rattle.std.specs.List.{flat_map}
 
--- a varint behind its tag has twenty bytes at most
+-- a varint after its tag has twenty bytes at most
 pub varint_field_len : (n v : ℕ) → n ≤ greatest_number → v < 2 ^ 64 → length (varint (n * 8) ++ varint v) ≤ 20
 varint_field_len n v le lt = let a = varint_at_most (n * 8) (omega arith) in let b = varint_at_most v lt in omega (arith, length-append (varint (n * 8)) (varint v))
 
@@ -25,7 +25,7 @@ number_len n v le lt = elim (cases_eq v 0) [
       omega (arith, ap length x, varint_field_len n v le lt)
 ]
 
--- a tag, and bytes behind it that are not left out
+-- a tag, and bytes after it that are not left out
 pub eight_field_len : (n : ℕ) (b : List ℕ) → n ≤ greatest_number → length b ≡ 8 → length (varint (n * 8 + 1) ++ b) ≤ 18
 eight_field_len n b le e = let a = varint_at_most (n * 8 + 1) (omega arith) in omega (arith, length-append (varint (n * 8 + 1)) b)
 

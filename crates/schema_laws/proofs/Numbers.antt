@@ -3,7 +3,7 @@ use Rattle.std.proofs.Common.{◌≡◌, ℕ, zero, suc, ◌+◌, ◌*◌, ◌%�
 use Rattle.std.specs.Prelude.{nat_lt}
 use Rattle.std.proofs.lemmas.Bool.{cond_both, ltb-false, ltb-true, lt-ltb, le-ltb}
 use Rattle.schema.specs.Fault.{Reason, Truncated, VarintLong}
-use Rattle.schema.specs.Steps.{varint_at, ◌>>=◌}
+use Rattle.schema.specs.Decoding.{varint_at, ◌>>=◌}
 use Rattle.schema.specs.Spelling.{GoOn, SpellsNumber, digits}
 use Rattle.schema.specs.FirstFault.{BadNumber, too_long, too_short}
 

@@ -5,7 +5,7 @@ use Rattle.std.proofs.lemmas.Bool.{cond_both, cond-true, cond-false, ltb-false, 
 use Rattle.std.proofs.lemmas.List.{length-take, take-append-drop, drop_at, drop-drop}
 use Rattle.schema.specs.Field.{Eight, Field, Four, Long, Payload, Varint, greatest_number, wire_type}
 use Rattle.schema.specs.Fault.{FieldNumber, Reason, Truncated, WireType}
-use Rattle.schema.specs.Steps.{bytes_at, field_at, payload_at, varint_at, ◌>>=◌}
+use Rattle.schema.specs.Decoding.{bytes_at, field_at, payload_at, varint_at, ◌>>=◌}
 use Rattle.schema.specs.Spelling.{SpellsField, SpellsNumber, SpellsPayload}
 use Rattle.schema.specs.FirstFault.{BadField, BadPayload, Tagged, bad_number, bad_payload, bad_size, bad_tag, bad_type, bad_varint, few_of_eight, few_of_four, few_of_size}
 use Rattle.schema_laws.proofs.Front.{bytes_again}
@@ -87,7 +87,7 @@ found_four : (kind : ℕ) (bytes : List ℕ) (r : Result (List ℕ × List ℕ) 
 found_four kind bytes (Ok x) e s = (x.0, s.0, (refl, s.1), e)
 found_four kind bytes (Err r) e s = inl (subst (BadPayload kind bytes) (sym s.0) (few_of_four e s.1))
 
--- for bytes behind their length
+-- for bytes after their length
 found_long : (kind n : ℕ) (bytes size rest : List ℕ) (r : Result (List ℕ × List ℕ) Reason) → kind ≡ 2 → bytes ≡ size ++ rest → SpellsNumber size n → BytesFound n rest r → PayloadFound kind bytes (as_long r)
 found_long kind n bytes size rest (Ok x) e is sp s =
     (size ++ x.0, is ∙ ap (λ (y : List ℕ). size ++ y) s.0 ∙ sym (append_assoc size x.0 x.1), (size, refl, subst (SpellsNumber size) (sym s.1) sp), e)
@@ -208,7 +208,7 @@ FieldFound bytes (Err r) = BadField bytes r
 other_kind : (kind : ℕ) → kind < 8 → NoKind kind → (kind ≡ 3) ⊎ ((kind ≡ 4) ⊎ ((kind ≡ 6) ⊎ (kind ≡ 7)))
 other_kind kind lt other = grind (arith, other.0, other.1, other.2, other.3)
 
--- behind a tag with a right number
+-- after a tag with a right number
 found_payload : (bytes : List ℕ) (n kind : ℕ) (rest : List ℕ) → Tagged bytes n kind rest → 1 ≤ n → n ≤ greatest_number → (r : PayloadRead) → PayloadFound kind rest r → FieldFound bytes (as_field n r)
 found_payload bytes n kind rest t a b (Ok x) s = (
   t.tag ++ s.0,
@@ -218,7 +218,7 @@ found_payload bytes n kind rest t a b (Ok x) s = (
 found_payload bytes n kind rest t a b (Err r) (inl s) = bad_payload r n kind rest t a b s
 found_payload bytes n kind rest t a b (Err r) (inr s) = subst (BadField bytes) (sym s.0) (bad_type n kind rest t a b (other_kind kind t.small s.1))
 
--- behind a tag
+-- after a tag
 found_after : (bytes : List ℕ) (n kind : ℕ) (rest : List ℕ) → Tagged bytes n kind rest → FieldFound bytes (after n kind rest)
 found_after bytes n kind rest t = cond_both ((n == 0) || nat_lt greatest_number n) (Err FieldNumber) (as_field n (payload_at kind rest)) (FieldFound bytes)
     (λ e. bad_number n kind rest t (illegal_from n e))

@@ -68,11 +68,11 @@ varint_some n = elim (cases_lt n 128) [
   | inr large ↦ omega (arith, ap length (varint_large n large))
 ]
 
--- a byte that goes on, behind what is put, and the varint of the rest are the varint
+-- a byte that goes on, after what is put, and the varint of the rest are the varint
 pub varint_onto : (out : List ℕ) (n : ℕ) → 128 ≤ n → (out ++ (n % 128 + 128) ∷ []) ++ varint (n / 128) ≡ out ++ varint n
 varint_onto out n le = append_assoc out ((n % 128 + 128) ∷ []) (varint (n / 128)) ∙ ap (λ (t : List ℕ). out ++ t) (sym (varint_large n le))
 
--- ---- bytes behind their length
+-- ---- bytes after their length
 
 -- the length of a field of bytes
 pub long_len : (n : ℕ) (b : List ℕ) → length (long_field n b) ≡ length (varint (n * 8 + 2)) + length (varint (length b)) + length b
@@ -83,7 +83,7 @@ long_len n b = omega (arith, length-append (varint (n * 8 + 2)) (varint (length 
 pub long_some : (n : ℕ) (b : List ℕ) → 0 < length (long_field n b)
 long_some n b = omega (arith, long_len n b, varint_some (length b))
 
--- a tag, a length and bytes, behind what is put, are the field
+-- a tag, a length and bytes, after what is put, are the field
 pub long_onto : (out : List ℕ) (n len : ℕ) (b : List ℕ) → len ≡ length b → ((out ++ varint (n * 8 + 2)) ++ varint len) ++ b ≡ out ++ long_field n b
 unfolding long_field
 long_onto out n len b e =
@@ -91,7 +91,7 @@ long_onto out n len b e =
 
 -- ---- messages
 
--- the rows behind a text are the spelling behind it
+-- the rows after a text are the spelling after it
 pub onto : (s : Shape) (out : List ℕ) (v : Value s) → spell_onto s out v ≡ out ++ spell s v
 onto (One n k rest) out v = onto rest (out ++ spell_one k (spell k) n v.0) v.1 ∙ append_assoc out (spell_one k (spell k) n v.0) (spell rest v.1)
 onto (Many n k rest) out v = onto rest (out ++ spell_many k (spell k) n v.0) v.1 ∙ append_assoc out (spell_many k (spell k) n v.0) (spell rest v.1)

@@ -7,13 +7,13 @@ use Rattle.schema.specs.FirstFault.{FirstFault, Sound}
 use Rattle.schema.specs.Parts.{FaultInParts, Part, ReadInParts, SpellsEach, joined, run_all}
 use Rattle.schema.specs.Run.{run}
 use Rattle.schema.specs.Spelling.{Spells}
-use Rattle.schema.specs.Steps.{◌>>=◌, trace}
+use Rattle.schema.specs.Decoding.{◌>>=◌, trace}
 use Rattle.schema_laws.proofs.Folds.{law_over}
 use Rattle.schema_laws.proofs.Growing.{Grows, StepKeeps, run_keeps}
 use Rattle.schema_laws.proofs.Lists.{Octets, each_append, each_left, each_right}
 use Rattle.schema_laws.proofs.Results.{ok_is, bind_ok}
-use Rattle.schema_laws.proofs.Spelled.{fields_spelled, spells_append}
-use Rattle.schema_laws.proofs.StepAgrees.{StepAgrees, ok_from}
+use Rattle.schema_laws.proofs.FieldLists.{fields_spelled, spells_append}
+use Rattle.schema_laws.proofs.StepAgreement.{StepAgrees, ok_from}
 use Rattle.schema_laws.proofs.StepFaults.{all_read, fault_found, fault_read, whole}
 
 -- what the parts spell is spelled by their joined bytes

@@ -7,7 +7,7 @@ use Rattle.std.proofs.lemmas.Bool.{cases_eq, eq-eqb, ne_eqb, cond-true}
 use Rattle.std.proofs.lemmas.List.{append-nil, nil_from_length}
 use Rattle.schema.specs.Field.{Long, Field}
 use Rattle.schema.specs.Fault.{NotUtf8, Fault, fault_at}
-use Rattle.schema.specs.Steps.{◌>>=◌, field_at, trace}
+use Rattle.schema.specs.Decoding.{◌>>=◌, field_at, trace}
 use Rattle.schema.specs.Run.{run, text_of}
 use Rattle.schema.specs.Texts.{long_field, bytes_field}
 use Rattle.schema.specs.Each.{Each}
@@ -45,7 +45,7 @@ both_pass step s t u base x y text a b =
     ap (λ (z : List ℕ). run step s (trace base z)) (append_assoc x y text) ∙ a ∙ b
     ∙ ap (λ (p : ℕ). run step u (trace p text)) (omega (arith, length-append x y))
 
--- bytes behind a tag and a length, which are left out where they are empty
+-- bytes after a tag and a length, which are left out where they are empty
 pub bytes_row : {S : Type 0} (step : Step S) (s t : S) (base n : ℕ) (b text : List ℕ) → 0 < n → n < 2 ^ 29 → length b < 2 ^ 64 → (b ≡ [] → s ≡ t)
     → ((end : ℕ) → step base end (record { number = n; payload = Long b }) s ≡ Ok t) → Passes step s t base (bytes_field n b) text
 unfolding bytes_field
@@ -58,7 +58,7 @@ bytes_row step s t base n b text some few fits zero_case h = elim (cases_eq (len
       one_field step s t base (bytes_field n b) text (record { number = n; payload = Long b }) l (ap (λ (y : List ℕ). field_at (y ++ text)) x ∙ long_again n b text some few fits) (λ end _. h end)
 ]
 
--- elements that are each behind a tag and a length
+-- elements that are each after a tag and a length
 pub items_row : {A S : Type 0} (step : Step S) (inject : List A → S) (text_of : A → List ℕ) (n : ℕ) (P : A → Type 0) → 0 < n → n < 2 ^ 29
     → ((x : A) → P x → length (text_of x) < 2 ^ 64)
     → ((x : A) → P x → (at end : ℕ) (vs : List A) → step at end (record { number = n; payload = Long (text_of x) }) (inject vs) ≡ Ok (inject (vs ++ x ∷ [])))
@@ -78,7 +78,7 @@ items_row {A = A} step inject text_of n P some few small takes pre (x ∷ xs) fi
 pub text_again : (at : ℕ) (b : List ℕ) → is_utf8 b ≡ true → text_of at b ≡ Ok b
 text_again at b e = cond-true (is_utf8 b) (Ok b) (Err (fault_at at NotUtf8)) e
 
--- a text that the step takes, with nothing behind it
+-- a text that the step takes, with nothing after it
 pub alone : {S : Type 0} (step : Step S) (s t : S) (base : ℕ) (x : List ℕ) → Passes step s t base x [] → run step s (trace base x) ≡ Ok t
 alone step s t base x p = ap (λ (y : List ℕ). run step s (trace base y)) (sym (append-nil x)) ∙ p ∙ run_end step t (base + length x) [] refl
 

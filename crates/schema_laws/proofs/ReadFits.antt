@@ -8,7 +8,7 @@ use Rattle.schema.specs.Texts.{bytes_field, fixed_text, long_field, numbers_text
 use Rattle.schema.specs.Spell.{spell, spell_many, spell_one}
 use Rattle.schema.specs.Each.{Each}
 use Rattle.schema.specs.Fits.{Fits, FitsTogether, Lawful}
-use Rattle.schema_laws.proofs.Back.{reads_back}
+use Rattle.schema_laws.proofs.ReadingBack.{reads_back}
 use Rattle.schema_laws.proofs.Results.{ok_is}
 use Rattle.schema_laws.proofs.Lists.{Octets}
 use Rattle.schema_laws.proofs.Lengths.{bytes_field_le, each_as, each_short}

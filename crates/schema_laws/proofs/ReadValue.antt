@@ -9,9 +9,9 @@ use Rattle.schema.specs.Each.{Each}
 use Rattle.schema.specs.Spelling.{Spells}
 use Rattle.schema.specs.MessageFault.{FieldFault}
 use Rattle.schema.specs.FirstFault.{Sound}
-use Rattle.schema_laws.proofs.Spelled.{fields_spelled}
+use Rattle.schema_laws.proofs.FieldLists.{fields_spelled}
 use Rattle.schema_laws.proofs.StepFaults.{whole, all_read}
-use Rattle.schema_laws.proofs.Agrees.{agrees}
+use Rattle.schema_laws.proofs.Agreement.{agrees}
 use Rattle.schema_laws.proofs.RowByRow.{value, value_nil, read_then}
 
 -- the same with more fields to come

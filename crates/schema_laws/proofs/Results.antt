@@ -1,6 +1,6 @@
 -- Results, and what comes next where they don't fail.
 use Rattle.std.proofs.Common.{◌≡◌, Bool, true, false, cond, Result, Ok, Err, refl, sym, ap, ◌∙◌}
-use Rattle.schema.specs.Steps.{◌>>=◌}
+use Rattle.schema.specs.Decoding.{◌>>=◌}
 
 -- two that are right are the same value
 pub ok_is : {A E : Type 0} (x y : A) → (let r : Result A E = Ok x in let q : Result A E = Ok y in r ≡ q) → x ≡ y

@@ -7,7 +7,7 @@ use Rattle.std.specs.Str.{is_utf8}
 use Rattle.std.proofs.lemmas.List.{append-nil}
 use Rattle.schema.specs.Field.{Eight, Field, Long, Payload, Varint}
 use Rattle.schema.specs.Fault.{Fault, NotUtf8, PackedLength, Reason, fault_at}
-use Rattle.schema.specs.Steps.{Trace, trace, ◌>>=◌}
+use Rattle.schema.specs.Decoding.{Trace, trace, ◌>>=◌}
 use Rattle.schema.specs.Shape.{Any, Bytes, Fixed, Format, I32, Index, IsMessage, Many, Number, NumberValue, One, Shape, Text, Value, empty, number_from}
 use Rattle.schema.specs.Merge.{at_place, merge, one_bytes, one_fixed, one_number, packed, packed_fixed, more_bytes, more_fixed, take_many, more_numbers, take_one, more_texts, take_field}
 use Rattle.schema.specs.Run.{run, text_of}
@@ -44,7 +44,7 @@ abbrev pub texts_of : Payload → List (List ℕ)
 texts_of (Long b) = b ∷ []
 texts_of payload = []
 
--- a singular row over what stood before; `value` is that of a message
+-- a singular row over what was there before; `value` is that of a message
 abbrev pub one_value : (s : Shape) → (Value s → List Field → Value s) → List Payload → Value s → Value s
 one_value (Number w) value ps u = last_said (number_in w) ps u
 one_value (Index T entry) value ps u = last_said (number_in I32) ps u
@@ -196,7 +196,7 @@ many_step k law at end p ps u x e = fold_many (messages_of (value k (empty k))) 
 
 -- ---- messages
 
--- a singular row and the rows behind it, a field at a time
+-- a singular row and the rows after it, a field at a time
 one_row : (n : ℕ) (k rest : Shape) → Law k → Step rest → (t : Bool) (at end : ℕ) (f : Field) (u v : Value k × Value rest) (fs : List Field)
     → cond t (take_one k (take_field k) at end f.payload u.0 >>= λ x. Ok (x, u.1)) (take_field rest at end f u.1 >>= λ x. Ok (u.0, x)) ≡ Ok v
     → (let a : Value k × Value rest = (one_value k (value k) (cond t (f.payload ∷ of_number n fs) (of_number n fs)) u.0, value rest u.1 (cond t (others n fs) (f ∷ others n fs))) in
@@ -212,7 +212,7 @@ one_row n k rest law step false at end f u v fs e =
     ap (λ (y : Value rest). let q : Value k × Value rest = (one_value k (value k) (of_number n fs) u.0, y) in q) (step at end f u.1 r.0 (others n fs) r.1)
     ∙ ap (λ (y : Value k × Value rest). let q : Value k × Value rest = (one_value k (value k) (of_number n fs) y.0, value rest y.1 (others n fs)) in q) p
 
--- a repeated row and the rows behind it, a field at a time
+-- a repeated row and the rows after it, a field at a time
 many_row : (n : ℕ) (k rest : Shape) → Law k → Step rest → (t : Bool) (at end : ℕ) (f : Field) (u v : List (Value k) × Value rest) (fs : List Field)
     → cond t (take_many k (take_field k) at end f.payload u.0 >>= λ x. Ok (x, u.1)) (take_field rest at end f u.1 >>= λ x. Ok (u.0, x)) ≡ Ok v
     → (let a : List (Value k) × Value rest = (u.0 ++ many_value k (value k) (cond t (f.payload ∷ of_number n fs) (of_number n fs)), value rest u.1 (cond t (others n fs) (f ∷ others n fs))) in

@@ -4,7 +4,7 @@ use Rattle.std.specs.Int.{w64, from_le_bytes}
 use Rattle.std.proofs.lemmas.List.{append-nil}
 use Rattle.schema.specs.Field.{Payload, Long, Field}
 use Rattle.schema.specs.Fault.{Reason, Fault, fault_at}
-use Rattle.schema.specs.Steps.{◌>>=◌, varint_at, trace}
+use Rattle.schema.specs.Decoding.{◌>>=◌, varint_at, trace}
 use Rattle.schema.specs.Shape.{Shape, End, One, Many, Format, NumberValue, Value, IsMessage, empty, number_from}
 use Rattle.schema.specs.Run.{run}
 use Rattle.schema.specs.Merge.{take_one, take_many, packed_upto, packed, more_packed, in_packed, packed_reason, at_place, fixed_upto, packed_fixed}
@@ -28,7 +28,7 @@ take_many_message (One n k rest) inside at end b v m = refl
 take_many_message (Many n k rest) inside at end b v m = refl
 take_many_message s inside at end b v m = absurd m
 
--- a payload that is not behind a length
+-- a payload that is not after a length
 abbrev pub IsShort : Payload → Type 0
 IsShort (Long b) = ⊥
 IsShort payload = Unit {0}
@@ -89,13 +89,13 @@ pub packed_nothing : (w : Format) → packed w [] ≡ Ok []
 unfolding packed_upto
 packed_nothing w = refl
 
--- a number in front, or behind those so far
+-- a number in front, or after those so far
 regroup : (w : Format) (at : ℕ) (vs : List (NumberValue w)) (v : NumberValue w) (r : Result (List (NumberValue w)) Reason)
     → (at_place at (r >>= λ ns. Ok (v ∷ ns)) >>= λ ns. Ok (vs ++ ns)) ≡ (at_place at r >>= λ ns. Ok ((vs ++ v ∷ []) ++ ns))
 regroup w at vs v (Ok ns) = ap (λ (t : List (NumberValue w)). Ok t) (sym (append_assoc vs (v ∷ []) ns))
 regroup w at vs v (Err e) = refl
 
--- the same behind the numbers so far, as a loop over the payload meets it
+-- the same after the numbers so far, as a loop over the payload meets it
 pub packed_goes_on : (w : Format) (at : ℕ) (bytes after : List ℕ) (n : ℕ) (vs : List (NumberValue w)) → 0 < length bytes → varint_at 9 bytes ≡ Ok (n, after)
     → more_packed w at bytes vs ≡ more_packed w at after (vs ++ number_from w n ∷ [])
 packed_goes_on w at bytes after n vs some e =

@@ -5,7 +5,7 @@ use Rattle.std.proofs.lemmas.Bool.{cond_both, ltb-false}
 use Rattle.std.proofs.lemmas.List.{length-take}
 use Rattle.schema.specs.Field.{Payload, Varint, Eight, Long, Four, Field, bytes_of, greatest_number}
 use Rattle.schema.specs.Fault.{Reason, Truncated, VarintLong, FieldNumber}
-use Rattle.schema.specs.Steps.{◌>>=◌, varint_at, bytes_at, payload_at, field_at}
+use Rattle.schema.specs.Decoding.{◌>>=◌, varint_at, bytes_at, payload_at, field_at}
 
 -- the size of what is answered is at most n
 abbrev pub Leaves : {A E : Type 0} → (A → ℕ) → ℕ → Result A E → Type 0

@@ -2,14 +2,14 @@
 use Rattle.std.proofs.Common.{◌≡◌, ℕ, zero, suc, ◌+◌, ◌<◌, List, [], ◌∷◌, ◌++◌, length, Result, Ok, Err, refl, sym, ap, subst, ◌∙◌, arith, append_assoc, length-append, inl, inr}
 use Rattle.schema.specs.Field.{Field}
 use Rattle.schema.specs.Fault.{Fault, fault_at}
-use Rattle.schema.specs.Steps.{Trace, trace, ◌>>=◌}
+use Rattle.schema.specs.Decoding.{Trace, trace, ◌>>=◌}
 use Rattle.schema.specs.Run.{run}
 use Rattle.schema.specs.Each.{Each}
 use Rattle.schema.specs.Spelling.{Spells, SpellsField}
 use Rattle.schema.specs.FirstFault.{BadField, FirstFault, Sound, WrongAt}
 use Rattle.schema_laws.proofs.Results.{err_is, bind_ok}
 use Rattle.schema_laws.proofs.Traces.{trace_end, fields}
-use Rattle.schema_laws.proofs.Spelled.{Begins, begins, trace_one, trace_bad}
+use Rattle.schema_laws.proofs.FieldLists.{Start, begins, trace_one, trace_bad}
 
 -- where the step fails, the field has the fault
 abbrev pub Hits : {S : Type 0} → (ℕ → ℕ → Field → S → Result S Fault) → (ℕ → ℕ → Field → Fault → Type 0) → Type 0
@@ -60,15 +60,15 @@ module _ {S : Type 0} (step : ℕ → ℕ → Field → S → Result S Fault) (I
       further base bytes one rest f g is sp (λ at end h i. let m = misses at end f s h i in let o = steady base (base + length one) f s t q at end in absurd (cc (o, m))) (ih t e)
 
   -- by what the bytes begin with
-  found_step : (base : ℕ) (bytes : List ℕ) (s : S) (g : Fault) → Begins base bytes
+  found_step : (base : ℕ) (bytes : List ℕ) (s : S) (g : Fault) → Start base bytes
       → ((c : ℕ) (rest : List ℕ) (t : S) → length rest < length bytes → run step t (trace c rest) ≡ Err g → FirstFault Inside c rest g)
       → run step s (trace base bytes) ≡ Err g → FirstFault Inside base bytes g
   unfolding run
-  found_step base bytes s g (Begins.over n) ih e = let d = ap (run step s) (sym (trace_end base bytes (ap length n))) ∙ e in absurd cc
-  found_step base bytes s g (Begins.bad r b q) ih e =
+  found_step base bytes s g (Start.over n) ih e = let d = ap (run step s) (sym (trace_end base bytes (ap length n))) ∙ e in absurd cc
+  found_step base bytes s g (Start.bad r b q) ih e =
       let d : fault_at base r ≡ g = err_is {A = S} (fault_at base r) g (ap (run step s) (sym q) ∙ e) in
       at_once base bytes g (inl (subst (BadField bytes) (ap (λ (x : Fault). x.reason) d) b, ap (λ (x : Fault). x.place) (sym d)))
-  found_step base bytes s g (Begins.met_one one rest f is sp lt q) ih e =
+  found_step base bytes s g (Start.met_one one rest f is sp lt q) ih e =
       found_met base bytes one rest f s g is sp (λ t u. ih (base + length one) rest t lt u) (step base (base + length one) f s) refl (ap (run step s) (sym q) ∙ e)
 
   -- for texts up to a length
@@ -118,13 +118,13 @@ module _ {S : Type 0} (step : ℕ → ℕ → Field → S → Result S Fault) (I
   -- ---- what is read without a fault
 
   -- at another place the same is read, by the first field
-  moved_step : (base other : ℕ) (bytes : List ℕ) (s t : S) → Begins base bytes
+  moved_step : (base other : ℕ) (bytes : List ℕ) (s t : S) → Start base bytes
       → ((b c : ℕ) (rest : List ℕ) (u : S) → length rest < length bytes → run step u (trace b rest) ≡ Ok t → run step u (trace c rest) ≡ Ok t)
       → run step s (trace base bytes) ≡ Ok t → run step s (trace other bytes) ≡ Ok t
   unfolding run
-  moved_step base other bytes s t (Begins.over n) ih e = ap (run step s) (trace_end other bytes (ap length n) ∙ sym (trace_end base bytes (ap length n))) ∙ e
-  moved_step base other bytes s t (Begins.bad r b q) ih e = let d = ap (run step s) (sym q) ∙ e in absurd cc
-  moved_step base other bytes s t (Begins.met_one one rest f is sp lt q) ih e =
+  moved_step base other bytes s t (Start.over n) ih e = ap (run step s) (trace_end other bytes (ap length n) ∙ sym (trace_end base bytes (ap length n))) ∙ e
+  moved_step base other bytes s t (Start.bad r b q) ih e = let d = ap (run step s) (sym q) ∙ e in absurd cc
+  moved_step base other bytes s t (Start.met_one one rest f is sp lt q) ih e =
       let x = bind_ok (step base (base + length one) f s) (λ u. run step u (trace (base + length one) rest)) t (ap (run step s) (sym q) ∙ e) in
       ap (run step s) (ap (trace other) is ∙ trace_one other one rest f sp)
       ∙ ap (λ (r : Result S Fault). r >>= λ u. run step u (trace (other + length one) rest)) (steady base (base + length one) f s x.0 x.1 other (other + length one))
@@ -144,13 +144,13 @@ module _ {S : Type 0} (step : ℕ → ℕ → Field → S → Result S Fault) (I
   Whole base bytes = (fs : List Field) × Spells bytes fs × Each (Sound Inside) fs × (fields (trace base bytes) ≡ fs)
 
   -- by the first field
-  whole_step : (base : ℕ) (bytes : List ℕ) (s t : S) → Begins base bytes
+  whole_step : (base : ℕ) (bytes : List ℕ) (s t : S) → Start base bytes
       → ((b : ℕ) (rest : List ℕ) (u : S) → length rest < length bytes → run step u (trace b rest) ≡ Ok t → Whole b rest)
       → run step s (trace base bytes) ≡ Ok t → Whole base bytes
   unfolding run
-  whole_step base bytes s t (Begins.over n) ih e = ([], n, tt, ap fields (trace_end base bytes (ap length n)))
-  whole_step base bytes s t (Begins.bad r b q) ih e = let d = ap (run step s) (sym q) ∙ e in absurd cc
-  whole_step base bytes s t (Begins.met_one one rest f is sp lt q) ih e =
+  whole_step base bytes s t (Start.over n) ih e = ([], n, tt, ap fields (trace_end base bytes (ap length n)))
+  whole_step base bytes s t (Start.bad r b q) ih e = let d = ap (run step s) (sym q) ∙ e in absurd cc
+  whole_step base bytes s t (Start.met_one one rest f is sp lt q) ih e =
       let x = bind_ok (step base (base + length one) f s) (λ u. run step u (trace (base + length one) rest)) t (ap (run step s) (sym q) ∙ e) in
       let w = ih (base + length one) rest x.0 lt x.2 in
       let sound : Sound Inside f = λ at end h i. let m = misses at end f s h i in let o = steady base (base + length one) f s x.0 x.1 at end in absurd (cc (o, m)) in

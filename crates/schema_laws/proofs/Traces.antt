@@ -2,11 +2,11 @@
 use Rattle.std.proofs.Common.{◌≡◌, ℕ, zero, suc, ◌+◌, ◌-◌, ◌<◌, ◌≤◌, List, [], ◌∷◌, length, Result, Ok, Err, refl, ap, ◌∙◌, arith}
 use Rattle.schema.specs.Field.{Field}
 use Rattle.schema.specs.Fault.{Reason, Fault, fault_at}
-use Rattle.schema.specs.Steps.{◌>>=◌, field_at, Trace, Done, Bad, Met, met, trace, trace_upto}
+use Rattle.schema.specs.Decoding.{◌>>=◌, field_at, Trace, Done, Bad, Met, met, trace, trace_upto}
 use Rattle.schema.specs.Run.{run}
 use Rattle.schema_laws.proofs.Sizes.{Leaves, field_size, field_leaves}
 
--- a first field, and the same behind it
+-- a first field, and the same after it
 met_same : (at len m : ℕ) (r : Result (Field × List ℕ) Reason) (go other : ℕ → List ℕ → Trace) → Leaves field_size (suc m) r
     → ((place : ℕ) (bytes : List ℕ) → length bytes ≤ m → go place bytes ≡ other place bytes) → met at len r go ≡ met at len r other
 met_same at len m (Ok f) go other h same = ap (λ (t : Trace). Met at (at + (len - length f.1)) f.0 t) (same (at + (len - length f.1)) f.1 (omega arith))

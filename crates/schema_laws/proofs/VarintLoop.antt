@@ -4,7 +4,7 @@ use Rattle.std.specs.Prelude.{nat_lt}
 use Rattle.std.proofs.Math.Nat.{pow-le-pow_right}
 use Rattle.std.proofs.lemmas.Bool.{lt-ltb, le-ltb}
 use Rattle.schema.specs.Fault.{Reason, Truncated, VarintLong}
-use Rattle.schema.specs.Steps.{◌>>=◌, varint_at}
+use Rattle.schema.specs.Decoding.{◌>>=◌, varint_at}
 
 -- what is read, above the low bytes that were read before
 abbrev pub above : ℕ → ℕ → Result (ℕ × List ℕ) Reason → Result (ℕ × List ℕ) Reason

@@ -2,8 +2,8 @@ ghost use Rattle.std.specs.Prelude.{◌≡◌, ℕ, ◌<◌, List, ◌++◌, len
 ghost use Rattle.schema.specs.Fault.{Reason};
 ghost use Rattle.schema.specs.Field.{Field};
 ghost use Rattle.schema.specs.FirstFault.{BadField};
-ghost use Rattle.schema.specs.Spelling.{Placed, Spells, SpellsAt, SpellsField, fields_of, trace_of};
-ghost use Rattle.schema.specs.Steps.{field_at, trace};
+ghost use Rattle.schema.specs.Spelling.{PlacedField, Spells, SpellsAt, SpellsField, fields_of, trace_of};
+ghost use Rattle.schema.specs.Decoding.{field_at, trace};
 
 /// A byte list spells one field list.
 pub fn spelled_once()
@@ -19,6 +19,6 @@ pub fn reads_one_field()
 
 /// Bytes are read to their end exactly where they spell fields, as those fields, each at its place.
 pub fn reads_what_is_spelled()
-    ensures traced { (base : ℕ) → (bytes : List ℕ) → (ps : List Placed) → (trace base bytes ≡ trace_of ps) ↔ SpellsAt base bytes ps }
-    ensures places { (base : ℕ) → (bytes : List ℕ) → (fs : List Field) → Spells bytes fs ↔ ((ps : List Placed) × SpellsAt base bytes ps × (fields_of ps ≡ fs)) }
+    ensures traced { (base : ℕ) → (bytes : List ℕ) → (ps : List PlacedField) → (trace base bytes ≡ trace_of ps) ↔ SpellsAt base bytes ps }
+    ensures places { (base : ℕ) → (bytes : List ℕ) → (fs : List Field) → Spells bytes fs ↔ ((ps : List PlacedField) × SpellsAt base bytes ps × (fields_of ps ≡ fs)) }
 {}

@@ -1,5 +1,5 @@
 //! Laws of the schema's definitions: what a byte list spells is read, what is spelled is read back, and faults are found.
-//! Each stands on a public function with no body; the lemmas are in `proofs/`.
+//! Each is the contract of a public function with no body; the lemmas are in `proofs/`.
 #![tactic(auto)]
 
 /// Laws of the canonical spelling.

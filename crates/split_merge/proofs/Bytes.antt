@@ -11,7 +11,7 @@ use Rattle.dict_build.specs.declared.fault.BuildFault.{BuildFault}
 use Rattle.dict_build.specs.declared.fault.BuildFault.TheVariants.{OutputLimit, NoMemory}
 use Rattle.dict_build.specs.Draft.{IsFaultOf}
 use Rattle.dict_build.specs.Meanings.{size_of}
-use Rattle.dict_build.proofs.Accepted.{apart, meaning_accepted, message_written}
+use Rattle.dict_build.proofs.Acceptance.{apart, meaning_accepted, message_written}
 use Rattle.split_merge.specs.Canonical.{Meaning, meaning, canonical_bytes, canon_of, within_limit, CanBeWritten, IsAcceptedAs, IsBuildFault, IsOnlyOf}
 
 -- the canonical bytes of a meaning that can be written are those of this meaning alone, and are accepted with it

@@ -19,11 +19,11 @@ within_limit bytes = if nat_lt message_limit (length bytes) then Err (OutputLimi
 abbrev pub canon_of : Message → Result (List ℕ) BuildFault
 canon_of m = within_limit (canonical_bytes (meaning m))
 
--- the fault is the one that is wanted, or memory was wanting
+-- the fault is the one that is wanted, or out of memory
 abbrev pub IsBuildFault : {T : Type 0} → Result T BuildFault → BuildFault → Type 0
 IsBuildFault want (OutputLimit size) = want ≡ Err (OutputLimit size)
 IsBuildFault want NoMemory = Unit {0}
 
--- of the meanings that can be written, the bytes are the canonical ones of this one alone
+-- of the meanings that can be written, no other one has these bytes as its canonical ones
 abbrev pub IsOnlyOf : List ℕ → Meaning → Type 0
 IsOnlyOf bytes ms = (ns : Meaning) → CanBeWritten ns → canonical_bytes ns ≡ bytes → ns ≡ ms

@@ -13,6 +13,10 @@ use std::sync::ledger::{Blank, Ledger};
 use tables::Steps;
 
 /// The canonical bytes of a message: its records with their new indexes, and the tables that these point into.
+///
+/// # Errors
+///
+/// `OutputLimit` where they are more than a message may have, with their number; or out of memory.
 pub fn canon<M: Seeds>(
     alloc: Global,
     message: &Checked<'_>,

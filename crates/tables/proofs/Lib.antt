@@ -1,3 +1,3 @@
 mod Search
 pub mod Places
-pub mod Tables
+pub mod Interning

@@ -5,7 +5,7 @@ use Rattle.std.proofs.lemmas.Bool.{ltb-true, lt-ltb}
 use Rattle.std.specs.Cmp.{IsEquivalence}
 use Rattle.std.specs.List.{list_any, position_or_len}
 use Rattle.indexmap.specs.IndexSet.{insert_key}
-use Rattle.tables.specs.Keys.{StandsAt, IsAbsent, IsPlace, Interned}
+use Rattle.tables.specs.Keys.{IsAt, IsAbsent, IsPlace, Interned}
 
 -- either some key passed, and n is the place; or none did, and n is the length
 abbrev Met : {K : Type 0} → List K → K → Bool → ℕ → Type 0
@@ -17,18 +17,18 @@ module _ {K : Type 0} (eq : K → K → Bool) (laws : IsEquivalence eq) (same : 
   step k ks key any n true e m = inl (refl, (ap Some (sym (same key k e)), λ before l s. omega arith))
   step k ks key any n false e m =
       let one : suc n ≡ 1 + n = omega arith in
-      let other : ¬ StandsAt (k ∷ ks) key zero = λ s. true≢false (sym (laws.refl key) ∙ ap (eq key) (sym (same_Some k key s)) ∙ e) in
+      let other : ¬ IsAt (k ∷ ks) key zero = λ s. true≢false (sym (laws.refl key) ∙ ap (eq key) (sym (same_Some k key s)) ∙ e) in
       subst (Met (k ∷ ks) key any) one (elim m [
         | inl h ↦ inl (h.0, (h.1.0, earlier h.1.1 other))
         | inr h ↦ inr (h.0, nowhere h.1 other, ap suc h.2)
       ])
     where
-      earlier : ((before : ℕ) → before < n → ¬ StandsAt ks key before) → ¬ StandsAt (k ∷ ks) key zero
-          → (before : ℕ) → before < suc n → ¬ StandsAt (k ∷ ks) key before
+      earlier : ((before : ℕ) → before < n → ¬ IsAt ks key before) → ¬ IsAt (k ∷ ks) key zero
+          → (before : ℕ) → before < suc n → ¬ IsAt (k ∷ ks) key before
       earlier h o zero l = o
       earlier h o (suc before) l = h before (omega arith)
 
-      nowhere : IsAbsent ks key → ¬ StandsAt (k ∷ ks) key zero → IsAbsent (k ∷ ks) key
+      nowhere : IsAbsent ks key → ¬ IsAt (k ∷ ks) key zero → IsAbsent (k ∷ ks) key
       nowhere h o zero = o
       nowhere h o (suc i) = h i
 

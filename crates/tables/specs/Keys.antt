@@ -2,28 +2,28 @@
 -- from 0. Two keys are the same where they are equal as values.
 use Rattle.std.specs.Prelude.{◌≡◌, ◌<◌, ◌^◌, ℕ, List, [], ◌∷◌, ◌++◌, length, slice_get, Some, ◌⊎◌}
 
--- the key stands at this place of the list
-abbrev pub StandsAt : {K : Type 0} → List K → K → ℕ → Type 0
-StandsAt keys key place = slice_get keys place ≡ Some key
+-- the key is at this place of the list
+abbrev pub IsAt : {K : Type 0} → List K → K → ℕ → Type 0
+IsAt keys key place = slice_get keys place ≡ Some key
 
--- the key stands at no place of the list
+-- the key is not in the list
 abbrev pub IsAbsent : {K : Type 0} → List K → K → Type 0
-IsAbsent keys key = (place : ℕ) → ¬ StandsAt keys key place
+IsAbsent keys key = (place : ℕ) → ¬ IsAt keys key place
 
--- the key stands at this place, and at none before it
+-- the key is at this place, and at none before it
 abbrev pub IsPlace : {K : Type 0} → List K → K → ℕ → Type 0
-IsPlace keys key place = StandsAt keys key place × ((before : ℕ) → before < place → ¬ StandsAt keys key before)
+IsPlace keys key place = IsAt keys key place × ((before : ℕ) → before < place → ¬ IsAt keys key before)
 
--- no key stands at two places
+-- no key is at two places
 abbrev pub AreDistinct : {K : Type 0} → List K → Type 0
-AreDistinct {K} keys = (key : K) (i j : ℕ) → StandsAt keys key i → StandsAt keys key j → i ≡ j
+AreDistinct {K} keys = (key : K) (i j : ℕ) → IsAt keys key i → IsAt keys key j → i ≡ j
 
 -- the key had this place, and the list is as before
 pub record IsFound {K : Type 0} (old : List K) (key : K) (new : List K) (place : ℕ) : Type 0 where
   pub had : IsPlace old key place
   pub same : new ≡ old
 
--- the key stood nowhere, and now stands behind all others
+-- the key was at no place, and is now the last
 pub record IsAdded {K : Type 0} (old : List K) (key : K) (new : List K) (place : ℕ) : Type 0 where
   pub absent : IsAbsent old key
   pub last : place ≡ length old
@@ -34,6 +34,6 @@ abbrev pub Interned : {K : Type 0} → List K → K → List K → ℕ → Type 
 Interned old key new place = IsFound old key new place ⊎ IsAdded old key new place
 
 -- what a table keeps of its keys: they are distinct, and each place fits an index of the format
-pub record IsTable {K : Type 0} (keys : List K) : Type 0 where
+pub record AreTableKeys {K : Type 0} (keys : List K) : Type 0 where
   pub distinct : AreDistinct keys
   pub few : length keys < 2 ^ 31

@@ -35,7 +35,7 @@ impl EntryKey {
     ///
     /// # Errors
     ///
-    /// Memory was wanting.
+    /// Out of memory.
     pub fn copy_of(alloc: Global, bytes: &[u8]) -> Result<EntryKey, NoMemory>
         ensures { IfOk result (λ k. k ≡ bytes.now) }
     {

@@ -12,11 +12,11 @@ pub trait Interner<K> {
 
     ghost keys: { Self → List K };
 
-    /// The index of the key. A key that is not there yet goes behind all others. It counts exactly one step.
+    /// The index of the key. A key that is not there yet goes to the end. It counts exactly one step.
     ///
     /// # Errors
     ///
-    /// Memory was wanting for a new key, which is dropped. The keys are as before, and the step is counted.
+    /// Out of memory for a new key, which is dropped. The keys are as before, and the step is counted.
     fn intern<L: Ledger>(&mut self, key: K, steps: &mut Steps<L>) -> Result<u32, NoMemory>
         requires few { length (keys self.old) < 2 ^ 31 - 1 }
         ensures ok { IfOk result (λ place. Interned (keys self.old) key (keys self.new) place) }

@@ -16,13 +16,13 @@ pub struct SearchedTable<K> {
 
 impl<K> Model for SearchedTable<K> {
     ghost use Rattle.std.specs.Prelude.{List};
-    ghost use Rattle.tables.specs.Keys.{IsTable};
+    ghost use Rattle.tables.specs.Keys.{AreTableKeys};
 
     ghost Value = { List K };
 
     ghost view = { λ t. t.items.items };
 
-    ghost invariant = { λ t. IsTable t.items.items };
+    ghost invariant = { λ t. AreTableKeys t.items.items };
 }
 
 impl<K> SearchedTable<K> {

@@ -17,13 +17,13 @@ pub struct Table<K: Key, S: BuildHasher> {
 
 impl<K: Key, S: BuildHasher> Model for Table<K, S> {
     ghost use Rattle.std.specs.Prelude.{List};
-    ghost use Rattle.tables.specs.Keys.{IsTable};
+    ghost use Rattle.tables.specs.Keys.{AreTableKeys};
 
     ghost Value = { List K };
 
     ghost view = { λ t. t.set.keys };
 
-    ghost invariant = { λ t. IsTable t.set.keys };
+    ghost invariant = { λ t. AreTableKeys t.set.keys };
 }
 
 impl<K: Key, S: BuildHasher> Table<K, S> {

@@ -1,4 +1,4 @@
-use Rattle.meaning.proofs.Restores.{unique}
+use Rattle.meaning.proofs.Resolution.{unique}
 use Rattle.meaning.proofs.canonical_is_unique.Goals as goal
 
 pub returns : goal.returns

@@ -1,4 +1,4 @@
-use Rattle.meaning.proofs.Restores.{canonical}
+use Rattle.meaning.proofs.Resolution.{canonical}
 use Rattle.meaning.proofs.canonical_resolves.Goals as goal
 
 pub returns : goal.returns

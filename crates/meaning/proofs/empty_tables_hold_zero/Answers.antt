@@ -1,4 +1,4 @@
-use Rattle.meaning.proofs.Zero.{filled-resolves}
+use Rattle.meaning.proofs.Zeros.{filled-resolves}
 use Rattle.meaning.proofs.empty_tables_hold_zero.Goals as goal
 
 pub returns : goal.returns

@@ -1,4 +1,4 @@
-use Rattle.meaning.proofs.Closed.{record_within, entries_within}
+use Rattle.meaning.proofs.Closure.{record_within, entries_within}
 use Rattle.meaning.proofs.indexes_in_tables.Goals as goal
 
 pub returns : goal.returns

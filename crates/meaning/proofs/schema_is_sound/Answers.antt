@@ -1,4 +1,4 @@
-use Rattle.meaning.proofs.Sound.{entry_sound, profile_sound, records_sound}
+use Rattle.meaning.proofs.Soundness.{entry_sound, profile_sound, records_sound}
 use Rattle.meaning.proofs.schema_is_sound.Goals as goal
 
 pub returns : goal.returns

@@ -1,5 +1,5 @@
-use Rattle.meaning.proofs.Restores.{tables-cover, tables-only, tables-distinct}
-use Rattle.meaning.proofs.Closed.{entries-distinct}
+use Rattle.meaning.proofs.Resolution.{tables-cover, tables-only, tables-distinct}
+use Rattle.meaning.proofs.Closure.{entries-distinct}
 use Rattle.meaning.proofs.tables_hold_each_value_once.Goals as goal
 
 pub returns : goal.returns

@@ -1,4 +1,4 @@
-use Rattle.meaning.proofs.Unused.{unused}
+use Rattle.meaning.proofs.UnusedEntries.{unused}
 use Rattle.meaning.proofs.unused_entries_mean_nothing.Goals as goal
 
 pub returns : goal.returns

@@ -1,5 +1,5 @@
 use Rattle.meaning.specs.Canonical.{tables_of}
-use Rattle.meaning.proofs.Zero.{tables_first, entries_first, renumber-zero}
+use Rattle.meaning.proofs.Zeros.{tables_first, entries_first, renumber-zero}
 use Rattle.meaning.proofs.zero_comes_first.Goals as goal
 
 pub returns : goal.returns

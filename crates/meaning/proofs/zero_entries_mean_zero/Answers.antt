@@ -1,4 +1,4 @@
-use Rattle.meaning.proofs.Zero.{blank-resolves, zero-index, zero-again}
+use Rattle.meaning.proofs.Zeros.{blank-resolves, zero-index, zero-again}
 use Rattle.meaning.proofs.zero_entries_mean_zero.Goals as goal
 
 pub returns : goal.returns

@@ -3,7 +3,7 @@ use Rattle.std.proofs.lemmas.List.{take_all}
 use Rattle.std.specs.Hash as fed
 use Rattle.std.specs.List.{flat_map}
 use Rattle.any_value.specs.Views.{any_view, pair_view}
-use Rattle.any_value.proofs.Fed.{item_writes, items_writes_are, keyed_writes, pairs_writes_are}
+use Rattle.any_value.proofs.Hashing.{item_writes, items_writes_are, keyed_writes, pairs_writes_are}
 use Rattle.any_value.proofs.feeding.+feeding.Goals as goal
 
 pub feed_items-returns : goal.feed_items-returns

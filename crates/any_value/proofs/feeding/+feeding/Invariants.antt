@@ -2,7 +2,7 @@ use Rattle.std.proofs.Common.{◌≡◌, ◌+◌, ◌*◌, take}
 use Rattle.std.specs.List.{flat_map, fold}
 use Rattle.any_value.specs.Sizes.{any_size, list_size, pair_list_size}
 use Rattle.any_value.specs.Views.{any_view}
-use Rattle.any_value.proofs.Fed.{item_writes, keyed_writes}
+use Rattle.any_value.proofs.Hashing.{item_writes, keyed_writes}
 use Rattle.any_value.proofs.feeding.+feeding.Given as goal
 
 -- ---- the calls go down into the value

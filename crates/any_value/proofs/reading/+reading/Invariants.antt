@@ -1,7 +1,7 @@
 use Rattle.std.proofs.Common.{◌≡◌, ◌+◌, ◌-◌, ◌*◌, ◌≤◌, length, drop}
 use Rattle.schema.specs.AnyMerge.{item_at, merge_any, pair_at, take_element, take_member, take_pair}
 use Rattle.schema.specs.Run.{run}
-use Rattle.schema.specs.Steps.{trace}
+use Rattle.schema.specs.Decoding.{trace}
 use Rattle.any_value.specs.Views.{any_view, pair_view}
 use Rattle.any_value.proofs.reading.+reading.Given as goal
 

@@ -6,7 +6,7 @@ use Rattle.schema.specs.Each.{Each}
 use Rattle.schema.specs.Typed.{IsTypedAny}
 use Rattle.any_value.specs.Views.{IsPairTyped, any_view, pair_view}
 use Rattle.any_value.proofs.Elements.{item_falls, item_text, items_text_is, keyed_falls, keyed_text, pairs_text_is}
-use Rattle.any_value.proofs.Typed.{items_typed, pairs_typed}
+use Rattle.any_value.proofs.Types.{items_typed, pairs_typed}
 use Rattle.any_value.proofs.writing.+writing.Goals as goal
 
 pub push_each_item-push_item-requires : goal.push_each_item-push_item-requires

@@ -2,7 +2,7 @@ use Rattle.std.proofs.Common.{◌≡◌, ◌+◌, ◌*◌, ◌++◌, take}
 use Rattle.std.specs.List.{flat_map}
 use Rattle.schema.specs.Each.{Each}
 use Rattle.schema.specs.Typed.{IsTypedAny}
-use Rattle.pb_wire.specs.Answers.{Begins}
+use Rattle.schema.specs.Prefix.{IsPrefix}
 use Rattle.any_value.specs.Sizes.{any_size, list_size, pair_list_size}
 use Rattle.any_value.specs.Views.{IsPairTyped, any_view}
 use Rattle.any_value.proofs.Elements.{item_text, keyed_text}
@@ -34,14 +34,14 @@ decreases-push_pairs l = 4 * pair_list_size l.pairs.now + 1
 abbrev pub decreases-push_each_pair : goal.decreases-push_each_pair
 decreases-push_each_pair l = 4 * pair_list_size l.pairs.now
 
--- ---- the elements so far stand behind what was there, and are typed
+-- ---- the elements so far follow what was there, and are typed
 
 abbrev pub invariant-push_each_item-loop-item : goal.invariant-push_each_item-loop-item
 invariant-push_each_item-loop-item l =
-    (l.out ≡ l.initial.out ++ flat_map item_text (take l.item-index l.item-items)) × Begins l.initial.out l.out
+    (l.out ≡ l.initial.out ++ flat_map item_text (take l.item-index l.item-items)) × IsPrefix l.initial.out l.out
     × Each (λ x. IsTypedAny (any_view x)) (take l.item-index l.item-items)
 
 abbrev pub invariant-push_each_pair-loop-pair : goal.invariant-push_each_pair-loop-pair
 invariant-push_each_pair-loop-pair l =
-    (l.out ≡ l.initial.out ++ flat_map keyed_text (take l.pair-index l.pair-items)) × Begins l.initial.out l.out
+    (l.out ≡ l.initial.out ++ flat_map keyed_text (take l.pair-index l.pair-items)) × IsPrefix l.initial.out l.out
     × Each IsPairTyped (take l.pair-index l.pair-items)

@@ -1,5 +1,5 @@
 use Rattle.std.proofs.Common.{arith}
-use Rattle.schema_laws.proofs.Typed.{typed_any_read_back}
+use Rattle.schema_laws.proofs.Types.{typed_any_read_back}
 use Rattle.any_value.specs.Views.{any_view}
 use Rattle.any_value.proofs.writing.encode_value.Goals as goal
 

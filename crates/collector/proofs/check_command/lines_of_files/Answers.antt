@@ -1,22 +1,14 @@
-use Rattle.std.proofs.Common.{◌∙◌, ◌++◌, ap, arith}
-use Rattle.collector.proofs.Each.{caused_at}
-use Rattle.collector.proofs.CheckedLines.{told_accepted, told_more, told_stopped}
+use Rattle.std.proofs.Common.{◌∙◌, ◌++◌, ap}
+use Rattle.collector.proofs.CheckLines.{lines_read, lines_stop}
+use Rattle.collector.proofs.RunSteps.{out_of_memory}
 use Rattle.collector.proofs.check_command.lines_of_files.Goals as goal
 
-pub returns-in-Err-clause-stopped : goal.returns-in-Err-clause-stopped
-returns-in-Err-clause-stopped g c =
-    told_stopped _ _ _ _ _ _ _ c.loop-name-test.true c.name-item.is c.loop-name.invariant.same c.loop-name.invariant.lines c.in-Err.ensures.stopped
-
-pub returns-in-Err-clause-cause : goal.returns-in-Err-clause-cause
-returns-in-Err-clause-cause g c =
-    caused_at _ _ _ _ _ _ _ _ _ c.loop-name-test.true c.name-item.is c.loop-name.invariant.later (told_accepted _ _ _ c.loop-name.invariant.lines) c.in-Err.ensures.cause
+pub returns-in-Err : goal.returns-in-Err
+returns-in-Err g c = lines_stop _ _ _ _ _ _ _ _ _ c.loop-name-test.true c.name-item.is c.loop-name.invariant c.in-Err.ensures
 
 pub loop-name-preserved : goal.loop-name-preserved
-loop-name-preserved g c = record {
-  lines = told_more _ _ _ _ _ _ _ _ c.loop-name-test.true c.name-item.is c.loop-name.invariant.same c.loop-name.invariant.lines c.in-Ok.ensures.ok
-      (c.in_default.ensures.ok ∙ ap (λ t. c.loop-name.lines ++ t) c.as_str.ensures);
-  same = c.in-Ok.ensures.same ∙ c.loop-name.invariant.same;
-  sound = λ h. (c.in-Ok.ensures.sound (c.loop-name.invariant.sound h)).0;
-  later = omega (arith, c.in-Ok.ensures.later);
-  writes = c.in-Ok.ensures.writes ∙ c.loop-name.invariant.writes;
-}
+loop-name-preserved g c = lines_read _ _ _ _ _ _ _ _ _ _ c.loop-name-test.true c.name-item.is c.loop-name.invariant c.in-Ok.ensures
+    (c.in_default.ensures.ok ∙ ap (λ t. c.loop-name.lines ++ t) c.as_str.ensures)
+
+pub returns-in-Err-append : goal.returns-in-Err-append
+returns-in-Err-append g c = out_of_memory _ _ _ _ _ _ _ _ _ _ c.loop-name.invariant.reads c.in-Ok.ensures.reads

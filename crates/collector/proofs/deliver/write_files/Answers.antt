@@ -9,9 +9,11 @@ loop-name-preserved g c = record {
   later = omega (arith, c.in_default.ensures.later);
 }
 
-pub returns-in-Err-clause-left : goal.returns-in-Err-clause-left
-returns-in-Err-clause-left g c =
-    left_at _ _ _ _ _ _ _ _ _ _ c.loop-name-test.true c.loop-name-item.is c.loop-name.invariant.told c.loop-name.invariant.later c.in-Err.ensures.left
-
-pub returns-in-Err-clause-named : goal.returns-in-Err-clause-named
-returns-in-Err-clause-named g c = named_at _ _ _ _ _ c.loop-name-test.true c.loop-name-item.is c.in-Err.ensures.named
+pub returns-in-Err : goal.returns-in-Err
+returns-in-Err g c = record {
+  ok = tt;
+  named = named_at _ _ _ _ _ c.loop-name-test.true c.loop-name-item.is c.in-Err.ensures.named;
+  left = left_at _ _ _ _ _ _ _ _ _ _ c.loop-name-test.true c.loop-name-item.is c.loop-name.invariant.told c.loop-name.invariant.later c.in-Err.ensures.left;
+  later = omega (arith, c.loop-name.invariant.later, c.in-Err.ensures.later);
+  sound = λ h. c.in-Err.ensures.sound (c.loop-name.invariant.sound h);
+}

@@ -1,12 +1,39 @@
-use Rattle.key_tables.proofs.Cut.{begins_itself, can_be_cut, cut_back_to}
+use Rattle.std.proofs.Common.{sym, subst, IfErr}
+use Rattle.dict_build.specs.Adding.{message_with}
+use Rattle.dict_build.specs.Contents.{Contents, contents}
+use Rattle.dict_build.specs.Draft.{IsFaultOfJoined, StandsForJoined}
+use Rattle.dict_build.proofs.Results.{kept_err, kept_ok}
+use Rattle.dict_build.proofs.Marks.{can_go_back, goes_anyway, kept_grown, marked_back}
 use Rattle.dict_build.proofs.adding.add_within_limit.Goals as goal
 
-pub back_to-requires-clause-mark : goal.back_to-requires-clause-mark
-back_to-requires-clause-mark g c =
-    can_be_cut c.args.tables.now c.add_records.new.tables c.mark-mark.result c.mark-mark.ensures.lengths c.mark-mark.ensures.len c.mark-mark.ensures.most
-    (c.add_records.ensures.tables c.args.tables.now (begins_itself c.args.tables.now))
+pub kept_or_cut_back-requires : goal.kept_or_cut_back-requires
+kept_or_cut_back-requires g c =
+    can_go_back c.mark_of-mark.result (contents c.args.tables.now c.args.records.now) (contents c.add_records-done.new.tables c.add_records-done.new.records) c.mark_of-mark.ensures
+    c.add_records-done.ensures.grown
 
-pub returns-in-Err-clause-tables : goal.returns-in-Err-clause-tables
-returns-in-Err-clause-tables g c =
-    cut_back_to c.args.tables.now c.add_records.new.tables c.back_to.new.self c.mark-mark.result.lengths c.mark-mark.ensures.lengths c.back_to.ensures
-    (c.add_records.ensures.tables c.args.tables.now (begins_itself c.args.tables.now))
+pub returns-clause-ok : goal.returns-clause-ok
+returns-clause-ok g c =
+    kept_ok c.kept_or_cut_back.result c.add_records-done.result
+    (λ d. StandsForJoined (contents c.args.tables.now c.args.records.now) d (message_with c.args.added.now c.args.dictionary.now))
+    (contents c.add_records-done.new.tables c.add_records-done.new.records) (contents c.kept_or_cut_back.new.tables c.kept_or_cut_back.new.records) c.kept_or_cut_back.ensures.answer
+    c.kept_or_cut_back.ensures.kept c.add_records-done.ensures.ok
+
+pub returns-clause-fault : goal.returns-clause-fault
+returns-clause-fault g c =
+    subst (λ r. IfErr r (IsFaultOfJoined (contents c.args.tables.now c.args.records.now) (message_with c.args.added.now c.args.dictionary.now)))
+    (sym c.kept_or_cut_back.ensures.answer) c.add_records-done.ensures.fault
+
+pub returns-clause-same : goal.returns-clause-same
+returns-clause-same g c =
+    kept_err c.kept_or_cut_back.result _ (contents c.kept_or_cut_back.new.tables c.kept_or_cut_back.new.records) (contents c.args.tables.now c.args.records.now)
+    c.kept_or_cut_back.ensures.cut
+    (marked_back c.mark_of-mark.result (contents c.args.tables.now c.args.records.now) (contents c.add_records-done.new.tables c.add_records-done.new.records) c.mark_of-mark.ensures
+    c.add_records-done.ensures.grown)
+
+pub returns-clause-grown : goal.returns-clause-grown
+returns-clause-grown g c =
+    let old : Contents = contents c.args.tables.now c.args.records.now in
+    let memo : Contents = contents c.add_records-done.new.tables c.add_records-done.new.records in
+    let new : Contents = contents c.kept_or_cut_back.new.tables c.kept_or_cut_back.new.records in
+    goes_anyway c.kept_or_cut_back.result old new (kept_grown c.kept_or_cut_back.result old memo new c.kept_or_cut_back.ensures.kept c.add_records-done.ensures.grown)
+    (kept_err c.kept_or_cut_back.result _ new old c.kept_or_cut_back.ensures.cut (marked_back c.mark_of-mark.result old memo c.mark_of-mark.ensures c.add_records-done.ensures.grown))

@@ -1,7 +1,7 @@
 use Rattle.std.proofs.Common.{◌+◌, refl, ap, arith}
 use Rattle.schema_laws.proofs.Onto.{varint_at_most}
 use Rattle.key_tables.specs.Keys.{keys_text}
-use Rattle.key_tables.proofs.Spelled.{long_len_of}
+use Rattle.key_tables.proofs.Spelling.{long_len_of}
 use Rattle.dict_build.proofs.contents.whole_len.Goals as goal
 
 pub overflow_add-result : goal.overflow_add-result

@@ -1,4 +1,4 @@
-use Rattle.key_tables.proofs.Cut.{now_cut, now_longer, now_within}
+use Rattle.key_tables.proofs.Cuts.{now_cut, now_longer, now_within}
 use Rattle.key_tables.proofs.filling.cut_back.Goals as goal
 
 pub at_mut-requires : goal.at_mut-requires

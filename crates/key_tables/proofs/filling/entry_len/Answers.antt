@@ -1,8 +1,8 @@
 use Rattle.std.proofs.Common.{rules, ◌+◌, ◌*◌, ◌<◌, ◌^◌, length, refl, arith}
 use Rattle.schema.specs.Tables.{field_of}
 use Rattle.schema_laws.proofs.Onto.{varint_at_most}
-use Rattle.pb_wire.specs.Tables.{table_of}
-use Rattle.key_tables.proofs.Spelled.{long_len_of}
+use Rattle.pb_wire.specs.TableKinds.{table_of}
+use Rattle.key_tables.proofs.Spelling.{long_len_of}
 use Rattle.key_tables.proofs.filling.entry_len.Goals as goal
 
 pub returns-clause-is : goal.returns-clause-is

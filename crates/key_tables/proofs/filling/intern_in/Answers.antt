@@ -1,6 +1,6 @@
 use Rattle.std.proofs.Common.{arith}
-use Rattle.pb_wire.specs.Tables.{place_of, table_of}
-use Rattle.key_tables.proofs.Tables.{interned_in, not_interned, set_itself}
+use Rattle.pb_wire.specs.TableKinds.{place_of, table_of}
+use Rattle.key_tables.proofs.Places.{interned_in, not_interned, set_itself}
 use Rattle.key_tables.proofs.filling.intern_in.Goals as goal
 
 pub returns-then-len-ge-MOST_ENTRIES-clause-same : goal.returns-then-len-ge-MOST_ENTRIES-clause-same

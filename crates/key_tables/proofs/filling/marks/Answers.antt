@@ -1,4 +1,4 @@
-use Rattle.key_tables.proofs.Cut.{count_at, seven_lengths}
+use Rattle.key_tables.proofs.Cuts.{count_at, seven_lengths}
 use Rattle.key_tables.proofs.filling.marks.Goals as goal
 
 pub returns : goal.returns

@@ -1,4 +1,4 @@
-use Rattle.meaning.proofs.Known.{memo_gives}
+use Rattle.meaning.proofs.Memo.{memo_gives}
 use Rattle.meaning.proofs.moving.memo_gives_indexes.Goals as goal
 
 pub returns : goal.returns

@@ -5,9 +5,9 @@ use Rattle.otlp_msg.specs.Lengths.{lengths_view}
 use Rattle.otlp_msg.specs.Views.{message_view}
 use Rattle.otlp_msg.specs.Walk.{dictionary_spots, lengths_in, message_spots, resource_spots, within}
 use Rattle.otlp_msg.specs.Within.{Passed, each_within}
-use Rattle.otlp_msg.proofs.Inside.{within_same}
+use Rattle.otlp_msg.proofs.IndexTests.{within_same}
 use Rattle.otlp_msg.proofs.Places.{placed_at}
-use Rattle.otlp_msg.proofs.Walked.{ends_seen, goes_on_seen, message_walked, records_tell, stops_seen, tables_tell}
+use Rattle.otlp_msg.proofs.Walks.{ends_seen, goes_on_seen, message_walked, records_tell, stops_seen, tables_tell}
 use Rattle.otlp_msg.proofs.indexed_records.indexes_within.Goals as goal
 
 pub returns-in-Err : goal.returns-in-Err

@@ -1,7 +1,7 @@
 use Rattle.prof_rec.specs.Views.{resource_profiles_view}
 use Rattle.otlp_msg.specs.Lengths.{lengths_view}
 use Rattle.otlp_msg.specs.Walk.{resource_spots, within}
-use Rattle.otlp_msg.proofs.Walked.{Left}
+use Rattle.otlp_msg.proofs.Walks.{Left}
 use Rattle.otlp_msg.proofs.indexed_records.indexes_within.Given as goal
 
 abbrev pub invariant-loop-resource : goal.invariant-loop-resource

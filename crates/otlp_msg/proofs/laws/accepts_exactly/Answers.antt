@@ -1,5 +1,5 @@
-use Rattle.otlp_msg.proofs.Accepted.{accepted_fits}
-use Rattle.otlp_msg.proofs.Decided.{accepted_from, accepted_to, dangling_from, dangling_to, never_memory, size_from, size_to, wire_from, wire_to, zero_entry_from, zero_entry_to}
+use Rattle.otlp_msg.proofs.Acceptance.{accepted_fits}
+use Rattle.otlp_msg.proofs.Decisions.{accepted_from, accepted_to, dangling_from, dangling_to, never_memory, size_from, size_to, wire_from, wire_to, zero_entry_from, zero_entry_to}
 use Rattle.otlp_msg.proofs.laws.accepts_exactly.Goals as goal
 
 pub returns : goal.returns

@@ -1,6 +1,6 @@
 use Rattle.std.proofs.Common.{sym, ◌∙◌, arith}
 use Rattle.otlp_msg.specs.Views.{message_view}
-use Rattle.otlp_msg.proofs.Accepted.{accepted_back, bytes_of_slice, read_fit, read_over, read_places}
+use Rattle.otlp_msg.proofs.Acceptance.{accepted_back, bytes_of_slice, read_fit, read_over, read_places}
 use Rattle.otlp_msg.proofs.reading.tested_message.Goals as goal
 
 pub first_other_zero-requires-clause-fits : goal.first_other_zero-requires-clause-fits

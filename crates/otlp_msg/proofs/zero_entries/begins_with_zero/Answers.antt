@@ -1,7 +1,7 @@
 use Rattle.std.proofs.Common.{◌≡◌, Some, sym, ap, ◌∙◌, arith}
 use Rattle.std.specs.List.{slice_get}
 use Rattle.std.specs.Option.{option_copied}
-use Rattle.schema_laws.proofs.Lawful.{lawful_from}
+use Rattle.schema_laws.proofs.Lawfulness.{lawful_from}
 use Rattle.otlp_msg.proofs.Zeros.{first_short, first_test, none_test}
 use Rattle.otlp_msg.proofs.zero_entries.begins_with_zero.Goals as goal
 

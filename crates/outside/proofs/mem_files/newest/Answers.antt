@@ -2,7 +2,7 @@ use Rattle.std.proofs.Common.{ap, sym, ◌∙◌}
 use Rattle.std.specs.Ordering.{nat_cmp}
 use Rattle.std.specs.Cmp.Lexicographic.{slice_cmp}
 use Rattle.std.specs.FinMap.{find}
-use Rattle.outside.proofs.Newest.{find_step}
+use Rattle.outside.proofs.NewestWrite.{find_step}
 use Rattle.outside.proofs.mem_files.newest.Goals as goal
 
 pub loop-held-init : goal.loop-held-init

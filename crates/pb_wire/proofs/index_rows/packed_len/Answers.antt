@@ -4,7 +4,7 @@ use Rattle.schema.specs.Shape.{I32}
 use Rattle.schema.specs.Texts.{varint, number_to}
 use Rattle.std.proofs.lemmas.List.{take_all}
 use Rattle.pb_wire.proofs.Rows.{next_within}
-use Rattle.pb_wire.specs.Tables.{table_of}
+use Rattle.pb_wire.specs.TableKinds.{table_of}
 use Rattle.pb_wire.proofs.Rows.{indexes_moved, read_or}
 use Rattle.pb_wire.proofs.index_rows.packed_len.Goals as goal
 

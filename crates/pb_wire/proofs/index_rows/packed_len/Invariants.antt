@@ -2,7 +2,7 @@ use Rattle.std.proofs.Common.{◌≡◌, length, take}
 use Rattle.std.specs.List.{flat_map}
 use Rattle.schema.specs.Shape.{I32}
 use Rattle.schema.specs.Texts.{varint, number_to}
-use Rattle.pb_wire.specs.Tables.{table_of}
+use Rattle.pb_wire.specs.TableKinds.{table_of}
 use Rattle.pb_wire.proofs.index_rows.packed_len.Given as goal
 
 -- the length of the new indexes so far

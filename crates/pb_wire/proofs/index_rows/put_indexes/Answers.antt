@@ -1,6 +1,6 @@
 use Rattle.std.proofs.Common.{arith}
-use Rattle.pb_wire.specs.Tables.{table_of}
-use Rattle.pb_wire.proofs.Typed.{no_indexes}
+use Rattle.pb_wire.specs.TableKinds.{table_of}
+use Rattle.pb_wire.proofs.Types.{no_indexes}
 use Rattle.pb_wire.proofs.index_rows.put_indexes.Goals as goal
 
 -- indexes that take no bytes are none

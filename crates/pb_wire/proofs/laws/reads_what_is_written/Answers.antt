@@ -1,5 +1,5 @@
-use Rattle.schema_laws.proofs.Back.{reads_back}
-use Rattle.schema_laws.proofs.Lawful.{lawful_from}
+use Rattle.schema_laws.proofs.ReadingBack.{reads_back}
+use Rattle.schema_laws.proofs.Lawfulness.{lawful_from}
 use Rattle.pb_wire.proofs.laws.reads_what_is_written.Goals as goal
 
 pub returns : goal.returns

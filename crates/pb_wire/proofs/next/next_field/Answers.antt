@@ -1,5 +1,5 @@
 use Rattle.std.proofs.Common.{◌≡◌, ℕ, drop, sym, ap, ◌∙◌, arith, length-drop, List, Ok, refl}
-use Rattle.schema.specs.Steps.{field_at}
+use Rattle.schema.specs.Decoding.{field_at}
 use Rattle.pb_wire.specs.View.{front_view}
 use Rattle.schema_laws.proofs.Sizes.{size_of_field}
 use Rattle.schema_laws.proofs.OneField.{rest_of_body}

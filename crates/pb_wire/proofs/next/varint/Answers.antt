@@ -1,6 +1,6 @@
 use Rattle.std.proofs.Common.{◌≡◌, ℕ, ◌<◌, ◌-◌, ◌∷◌, List, ap, ◌∙◌, sym, arith}
 use Rattle.std.proofs.lemmas.List.{nil_from_length}
-use Rattle.schema.specs.Steps.{varint_at}
+use Rattle.schema.specs.Decoding.{varint_at}
 use Rattle.schema_laws.proofs.VarintLoop.{above, next_weight, goes_on, ends, ends_last, too_long, too_short, low_fits, last_fits}
 use Rattle.pb_wire.proofs.next.varint.Goals as goal
 

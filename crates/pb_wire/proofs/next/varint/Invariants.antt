@@ -1,5 +1,5 @@
 use Rattle.std.proofs.Common.{◌≡◌, ◌-◌, ◌<◌, ◌^◌}
-use Rattle.schema.specs.Steps.{varint_at}
+use Rattle.schema.specs.Decoding.{varint_at}
 use Rattle.schema_laws.proofs.VarintLoop.{above}
 use Rattle.pb_wire.proofs.next.varint.Given as goal
 

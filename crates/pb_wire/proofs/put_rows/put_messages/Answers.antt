@@ -7,7 +7,7 @@ use Rattle.schema.specs.Texts.{long_field}
 use Rattle.schema.specs.Spell.{spell}
 use Rattle.schema.specs.Typed.{IsTyped}
 use Rattle.pb_wire.proofs.Rows.{items_moved, moved_within}
-use Rattle.pb_wire.proofs.Typed.{each_seen}
+use Rattle.pb_wire.proofs.Types.{each_seen}
 use Rattle.pb_wire.proofs.put_rows.put_messages.Goals as goal
 
 pub rows_len-requires : goal.rows_len-requires

@@ -9,15 +9,15 @@ use Rattle.schema.specs.Moved.{moved}
 use Rattle.schema.specs.Texts.{long_field}
 use Rattle.schema.specs.Spell.{spell}
 use Rattle.schema.specs.Typed.{IsTyped}
-use Rattle.pb_wire.specs.Answers.{Begins}
+use Rattle.schema.specs.Prefix.{IsPrefix}
 use Rattle.pb_wire.proofs.Rows.{items_moved, moved_within, next_text}
-use Rattle.pb_wire.proofs.Typed.{each_next, each_seen}
+use Rattle.pb_wire.proofs.Types.{each_next, each_seen}
 use Rattle.prof_rec.specs.SampleRefs.{sample_of}
 use Rattle.prof_rec.specs.Views.{sample_view}
 use Rattle.prof_rec.proofs.sample_rows.put_samples.Goals as goal
 
 -- what is in front stays there
-begins : (old new more : List ℕ) → new ≡ old ++ more → Begins old new
+begins : (old new more : List ℕ) → new ≡ old ++ more → IsPrefix old new
 begins old new more e = e ∙ ap (λ (t : List ℕ). old ++ t) (sym (ap (drop (length old)) e ∙ drop-append_seam old more))
 
 -- the length of the sample's field is within that of the row

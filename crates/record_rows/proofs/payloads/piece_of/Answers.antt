@@ -1,4 +1,4 @@
-use Rattle.record_rows.proofs.Written.{octets}
+use Rattle.record_rows.proofs.ShortPieces.{octets}
 use Rattle.record_rows.proofs.payloads.piece_of.Goals as goal
 
 pub returns-clause-octets : goal.returns-clause-octets

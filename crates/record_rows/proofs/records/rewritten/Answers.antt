@@ -1,4 +1,4 @@
-use Rattle.record_rows.proofs.Written.{record_short}
+use Rattle.record_rows.proofs.ShortPieces.{record_short}
 use Rattle.record_rows.proofs.records.rewritten.Goals as goal
 
 pub written-requires : goal.written-requires

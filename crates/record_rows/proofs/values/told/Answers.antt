@@ -1,6 +1,6 @@
 use Rattle.schema.specs.AnyMerge.{any_levels}
 use Rattle.any_value.specs.Views.{any_view}
-use Rattle.record_rows.proofs.Written.{value_short}
+use Rattle.record_rows.proofs.ShortPieces.{value_short}
 use Rattle.record_rows.proofs.values.told.Goals as goal
 
 pub written-requires : goal.written-requires

@@ -1,4 +1,4 @@
-use Rattle.renumber.proofs.Written.{nothing_met}
+use Rattle.renumber.proofs.Texts.{nothing_met}
 use Rattle.renumber.proofs.laws.nothing_met_is_ready.Goals as goal
 
 pub returns : goal.returns

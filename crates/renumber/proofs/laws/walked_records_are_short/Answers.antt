@@ -1,4 +1,4 @@
-use Rattle.renumber.proofs.Written.{records_short}
+use Rattle.renumber.proofs.Texts.{records_short}
 use Rattle.renumber.proofs.laws.walked_records_are_short.Goals as goal
 
 pub returns : goal.returns

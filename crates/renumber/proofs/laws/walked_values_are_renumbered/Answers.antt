@@ -1,4 +1,4 @@
-use Rattle.renumber.proofs.Written.{values_renumbered, values_spelled}
+use Rattle.renumber.proofs.Texts.{values_renumbered, values_spelled}
 use Rattle.renumber.proofs.laws.walked_values_are_renumbered.Goals as goal
 
 pub returns-clause-renumbered : goal.returns-clause-renumbered

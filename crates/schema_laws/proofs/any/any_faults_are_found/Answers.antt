@@ -1,4 +1,4 @@
-use Rattle.schema_laws.proofs.AnyAgrees.{any_err, any_fault}
+use Rattle.schema_laws.proofs.AnyAgreement.{any_err, any_fault}
 use Rattle.schema_laws.proofs.any.any_faults_are_found.Goals as goal
 
 pub returns : goal.returns

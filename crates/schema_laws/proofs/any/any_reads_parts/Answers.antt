@@ -1,4 +1,4 @@
-use Rattle.schema_laws.proofs.AnySame.{any_parts_bad, any_parts_found, any_parts_from, any_parts_to}
+use Rattle.schema_laws.proofs.AnyValueRelation.{any_parts_bad, any_parts_found, any_parts_from, any_parts_to}
 use Rattle.schema_laws.proofs.any.any_reads_parts.Goals as goal
 
 pub returns : goal.returns

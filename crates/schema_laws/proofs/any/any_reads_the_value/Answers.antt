@@ -1,4 +1,4 @@
-use Rattle.schema_laws.proofs.AnySame.{any_from, any_to}
+use Rattle.schema_laws.proofs.AnyValueRelation.{any_from, any_to}
 use Rattle.schema_laws.proofs.any.any_reads_the_value.Goals as goal
 
 pub returns : goal.returns

@@ -1,4 +1,4 @@
-use Rattle.schema_laws.proofs.AnySame.{any_ok, any_sound}
+use Rattle.schema_laws.proofs.AnyValueRelation.{any_ok, any_sound}
 use Rattle.schema_laws.proofs.any.any_reads_without_fault.Goals as goal
 
 pub returns : goal.returns

@@ -1,5 +1,5 @@
 use Rattle.std.proofs.Common.{ap, ◌∙◌}
-use Rattle.schema.specs.Steps.{field_at}
+use Rattle.schema.specs.Decoding.{field_at}
 use Rattle.schema_laws.proofs.OneField.{field_read, field_bad, one_found, one_bad}
 use Rattle.schema_laws.proofs.fields.reads_one_field.Goals as goal
 

@@ -1,6 +1,6 @@
 use Rattle.std.proofs.Common.{subst}
 use Rattle.schema.specs.Spelling.{Spells}
-use Rattle.schema_laws.proofs.Spelled.{traced, spelled, placed, unplaced}
+use Rattle.schema_laws.proofs.FieldLists.{traced, spelled, placed, unplaced}
 use Rattle.schema_laws.proofs.fields.reads_what_is_spelled.Goals as goal
 
 pub returns : goal.returns

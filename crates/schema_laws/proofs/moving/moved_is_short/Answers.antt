@@ -1,4 +1,4 @@
-use Rattle.schema_laws.proofs.MovedShort.{moved_fits, moved_short}
+use Rattle.schema_laws.proofs.MovedLengths.{moved_fits, moved_short}
 use Rattle.schema_laws.proofs.moving.moved_is_short.Goals as goal
 
 pub returns-clause-short : goal.returns-clause-short

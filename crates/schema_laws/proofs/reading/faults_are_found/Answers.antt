@@ -1,4 +1,4 @@
-use Rattle.schema_laws.proofs.Agrees.{merge_err, merge_fault}
+use Rattle.schema_laws.proofs.Agreement.{merge_err, merge_fault}
 use Rattle.schema_laws.proofs.reading.faults_are_found.Goals as goal
 
 pub returns : goal.returns

@@ -1,8 +1,8 @@
 use Rattle.schema.specs.Merge.{take_field}
 use Rattle.schema.specs.MessageFault.{FieldFault}
-use Rattle.schema_laws.proofs.Agrees.{agrees}
+use Rattle.schema_laws.proofs.Agreement.{agrees}
 use Rattle.schema_laws.proofs.Parts.{joined_spelled, parts_bad, parts_found}
-use Rattle.schema_laws.proofs.SameValue.{parts_from, parts_to}
+use Rattle.schema_laws.proofs.ValueRelation.{parts_from, parts_to}
 use Rattle.schema_laws.proofs.reading.reads_parts.Goals as goal
 
 pub returns : goal.returns

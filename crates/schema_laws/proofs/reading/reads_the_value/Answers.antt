@@ -1,4 +1,4 @@
-use Rattle.schema_laws.proofs.SameValue.{read_from, read_to}
+use Rattle.schema_laws.proofs.ValueRelation.{read_from, read_to}
 use Rattle.schema_laws.proofs.reading.reads_the_value.Goals as goal
 
 pub returns : goal.returns

@@ -1,4 +1,4 @@
-use Rattle.schema_laws.proofs.Agrees.{merge_ok, merge_sound}
+use Rattle.schema_laws.proofs.Agreement.{merge_ok, merge_sound}
 use Rattle.schema_laws.proofs.reading.reads_without_fault.Goals as goal
 
 pub returns : goal.returns

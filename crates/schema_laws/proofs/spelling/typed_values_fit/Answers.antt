@@ -1,5 +1,5 @@
 use Rattle.schema_laws.proofs.ReadFits.{fits_from}
-use Rattle.schema_laws.proofs.Typed.{typed_in_range}
+use Rattle.schema_laws.proofs.Types.{typed_in_range}
 use Rattle.schema_laws.proofs.spelling.typed_values_fit.Goals as goal
 
 pub returns : goal.returns

@@ -1,5 +1,5 @@
 use Rattle.std.proofs.Common.{ap}
-use Rattle.otlp_msg.proofs.Accepted.{accepted_fits}
+use Rattle.otlp_msg.proofs.Acceptance.{accepted_fits}
 use Rattle.split_merge.specs.Canonical.{canonical_bytes, within_limit}
 use Rattle.split_merge.proofs.Bytes.{canon_apart, only_meaning}
 use Rattle.split_merge.proofs.laws.canonical_bytes_are_unique.Goals as goal

@@ -1,5 +1,5 @@
 use Rattle.std.proofs.Common.{arith}
-use Rattle.pb_wire.proofs.Begins.{growing}
+use Rattle.pb_wire.proofs.Prefixes.{growing}
 use Rattle.dict_rec.proofs.function.FunctionWire.put_rows.Goals as goal
 
 pub returns-in_err-put_index-3-clause-err : goal.returns-in_err-put_index-3-clause-err

@@ -1,9 +1,9 @@
 use Rattle.std.proofs.Common.{length, sym, ap, ◌∙◌, subst, arith}
-use Rattle.pb_wire.specs.Tables.{place_of, table_of}
-use Rattle.key_tables.specs.Keys.{Begins}
-use Rattle.key_tables.proofs.Cut.{count_at}
-use Rattle.key_tables.proofs.Spelled.{len_grown}
-use Rattle.key_tables.proofs.Tables.{begins_still, few_still}
+use Rattle.pb_wire.specs.TableKinds.{place_of, table_of}
+use Rattle.key_tables.specs.Keys.{ArePrefixes}
+use Rattle.key_tables.proofs.Cuts.{count_at}
+use Rattle.key_tables.proofs.Spelling.{len_grown}
+use Rattle.key_tables.proofs.Places.{prefixes_still, few_still}
 use Rattle.key_tables.proofs.key_tables.KeyTables.intern.Goals as goal
 
 pub invariant_of-self-2 : goal.invariant_of-self-2
@@ -20,5 +20,5 @@ invariant_of-self-2 g c =
 
 pub returns-clause-kept : goal.returns-clause-kept
 returns-clause-kept g c = λ base b.
-    begins_still (table_of c.args.kind) c.self.inside.tables c.args.key c.intern_in.new.tables c.in_ok-place.place c.in_ok-place.ensures.interned base
-    (subst (Begins base) (sym c.self.view_is) b)
+    prefixes_still (table_of c.args.kind) c.self.inside.tables c.args.key c.intern_in.new.tables c.in_ok-place.place c.in_ok-place.ensures.interned base
+    (subst (ArePrefixes base) (sym c.self.view_is) b)

@@ -1,4 +1,4 @@
-use Rattle.key_tables.proofs.Spelled.{zeros_measured}
+use Rattle.key_tables.proofs.Spelling.{zeros_measured}
 use Rattle.key_tables.proofs.key_tables.KeyTables.of_zeros.Goals as goal
 
 pub invariant_of-result : goal.invariant_of-result

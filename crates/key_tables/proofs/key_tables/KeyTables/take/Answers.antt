@@ -1,5 +1,5 @@
 use Rattle.std.proofs.Common.{◌∙◌}
-use Rattle.key_tables.proofs.Spelled.{none_measured}
+use Rattle.key_tables.proofs.Spelling.{none_measured}
 use Rattle.key_tables.proofs.key_tables.KeyTables.take.Goals as goal
 
 pub invariant_of-replace : goal.invariant_of-replace

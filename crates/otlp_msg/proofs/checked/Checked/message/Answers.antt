@@ -1,4 +1,4 @@
-use Rattle.otlp_msg.proofs.Accepted.{accepted_short, accepted_fits, accepted_zeros, accepted_entries, accepted_records}
+use Rattle.otlp_msg.proofs.Acceptance.{accepted_short, accepted_fits, accepted_zeros, accepted_entries, accepted_records}
 use Rattle.otlp_msg.specs.Checked.{body_of, value_of}
 use Rattle.otlp_msg.proofs.checked.Checked.message.Goals as goal
 

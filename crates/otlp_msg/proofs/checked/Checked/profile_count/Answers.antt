@@ -2,7 +2,7 @@ use Rattle.std.proofs.Common.{◌≡◌, sym, ap, ◌∙◌, arith}
 use Rattle.otlp_msg.specs.Checked.{value_of}
 use Rattle.otlp_msg.specs.Counts.{resources_count}
 use Rattle.otlp_msg.specs.Message.{profiles_of}
-use Rattle.otlp_msg.proofs.Counted.{resources_counted, profiles_few}
+use Rattle.otlp_msg.proofs.Amounts.{resources_counted, profiles_few}
 use Rattle.otlp_msg.proofs.checked.Checked.profile_count.Goals as goal
 use Rattle.otlp_msg.proofs.checked.Checked.profile_count.Goals.{After-as_slice}
 

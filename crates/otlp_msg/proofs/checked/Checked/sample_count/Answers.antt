@@ -2,7 +2,7 @@ use Rattle.std.proofs.Common.{◌≡◌, sym, ap, ◌∙◌, arith}
 use Rattle.otlp_msg.specs.Checked.{value_of}
 use Rattle.otlp_msg.specs.Counts.{resources_samples}
 use Rattle.otlp_msg.specs.Message.{samples_of}
-use Rattle.otlp_msg.proofs.Counted.{resources_sampled, samples_few}
+use Rattle.otlp_msg.proofs.Amounts.{resources_sampled, samples_few}
 use Rattle.otlp_msg.proofs.checked.Checked.sample_count.Goals as goal
 use Rattle.otlp_msg.proofs.checked.Checked.sample_count.Goals.{After-as_slice}
 

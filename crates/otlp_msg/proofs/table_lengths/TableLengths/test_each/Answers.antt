@@ -4,7 +4,7 @@ use Rattle.otlp_msg.specs.Lengths.{lengths_view}
 use Rattle.otlp_msg.specs.Walk.{entered}
 use Rattle.otlp_msg.specs.Within.{value_within}
 use Rattle.otlp_msg.proofs.Places.{placed_at}
-use Rattle.otlp_msg.proofs.Walked.{goes_on_seen, stops_seen, ends_seen}
+use Rattle.otlp_msg.proofs.Walks.{goes_on_seen, stops_seen, ends_seen}
 use Rattle.otlp_msg.proofs.table_lengths.TableLengths.test_each.Goals as goal
 
 pub indexes_within-requires : goal.indexes_within-requires

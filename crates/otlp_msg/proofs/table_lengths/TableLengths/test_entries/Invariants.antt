@@ -1,7 +1,7 @@
 use Rattle.otlp_msg.specs.Lengths.{lengths_view}
 use Rattle.otlp_msg.specs.Walk.{entry_holder}
 use Rattle.otlp_msg.specs.Within.{value_within}
-use Rattle.otlp_msg.proofs.Walked.{Left}
+use Rattle.otlp_msg.proofs.Walks.{Left}
 use Rattle.otlp_msg.proofs.table_lengths.TableLengths.test_entries.Given as goal
 
 abbrev pub invariant-loop-entry : goal.invariant-loop-entry

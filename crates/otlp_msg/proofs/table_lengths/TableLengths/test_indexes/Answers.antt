@@ -3,7 +3,7 @@ use Rattle.std.proofs.lemmas.List.{get_or_default}
 use Rattle.std.specs.Int.{w32}
 use Rattle.otlp_msg.specs.Lengths.{lengths_view}
 use Rattle.otlp_msg.specs.Walk.{spot, within}
-use Rattle.otlp_msg.proofs.Walked.{goes_on}
+use Rattle.otlp_msg.proofs.Walks.{goes_on}
 use Rattle.otlp_msg.proofs.table_lengths.TableLengths.test_indexes.Goals as goal
 use mir.Val.{to_z, of_z}
 

@@ -1,7 +1,7 @@
 use Rattle.std.proofs.Common.{[], ◌∷◌}
 use Rattle.otlp_msg.specs.Lengths.{lengths_view}
 use Rattle.otlp_msg.specs.Walk.{spot, within}
-use Rattle.otlp_msg.proofs.Walked.{Left}
+use Rattle.otlp_msg.proofs.Walks.{Left}
 use Rattle.otlp_msg.proofs.table_lengths.TableLengths.test_indexes.Given as goal
 
 abbrev pub invariant-loop-item : goal.invariant-loop-item

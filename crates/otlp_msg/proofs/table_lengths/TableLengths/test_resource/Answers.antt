@@ -4,7 +4,7 @@ use Rattle.prof_rec.specs.Views.{scope_profiles_view}
 use Rattle.otlp_msg.specs.Lengths.{lengths_view}
 use Rattle.otlp_msg.specs.Walk.{scope_spots, within}
 use Rattle.otlp_msg.proofs.Places.{placed_at}
-use Rattle.otlp_msg.proofs.Walked.{each_walked, goes_on_seen, stops_seen, ends_seen}
+use Rattle.otlp_msg.proofs.Walks.{each_walked, goes_on_seen, stops_seen, ends_seen}
 use Rattle.otlp_msg.proofs.table_lengths.TableLengths.test_resource.Goals as goal
 
 pub test_scope-requires : goal.test_scope-requires

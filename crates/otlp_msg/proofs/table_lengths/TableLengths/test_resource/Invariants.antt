@@ -1,7 +1,7 @@
 use Rattle.prof_rec.specs.Views.{scope_profiles_view}
 use Rattle.otlp_msg.specs.Lengths.{lengths_view}
 use Rattle.otlp_msg.specs.Walk.{scope_spots, within}
-use Rattle.otlp_msg.proofs.Walked.{Left}
+use Rattle.otlp_msg.proofs.Walks.{Left}
 use Rattle.otlp_msg.proofs.table_lengths.TableLengths.test_resource.Given as goal
 
 abbrev pub invariant-loop-scope : goal.invariant-loop-scope

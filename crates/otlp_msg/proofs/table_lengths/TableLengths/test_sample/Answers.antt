@@ -3,7 +3,7 @@ use Rattle.prof_rec.specs.SampleRefs.{sample_of}
 use Rattle.prof_rec.specs.Views.{sample_view}
 use Rattle.otlp_msg.specs.Lengths.{lengths_view}
 use Rattle.otlp_msg.specs.Within.{Passed}
-use Rattle.otlp_msg.proofs.Plain.{sample_test, sample_within}
+use Rattle.otlp_msg.proofs.PlainValues.{sample_test, sample_within}
 use Rattle.otlp_msg.proofs.table_lengths.TableLengths.test_sample.Goals as goal
 
 pub returns-in_err-test_indexes : goal.returns-in_err-test_indexes

@@ -5,7 +5,7 @@ use Rattle.otlp_msg.specs.declared.path.Holder.TheVariants as holder
 use Rattle.otlp_msg.specs.Lengths.{lengths_view}
 use Rattle.otlp_msg.specs.Walk.{profile_spots, within}
 use Rattle.otlp_msg.proofs.Places.{placed_at}
-use Rattle.otlp_msg.proofs.Walked.{each_walked, goes_on_seen, stops_seen, ends_seen, value_walked}
+use Rattle.otlp_msg.proofs.Walks.{each_walked, goes_on_seen, stops_seen, ends_seen, value_walked}
 use Rattle.otlp_msg.proofs.table_lengths.TableLengths.test_scope.Goals as goal
 
 pub indexes_within-requires : goal.indexes_within-requires

@@ -1,7 +1,7 @@
 use Rattle.prof_rec.specs.Views.{profile_view}
 use Rattle.otlp_msg.specs.Lengths.{lengths_view}
 use Rattle.otlp_msg.specs.Walk.{profile_spots, within}
-use Rattle.otlp_msg.proofs.Walked.{Left}
+use Rattle.otlp_msg.proofs.Walks.{Left}
 use Rattle.otlp_msg.proofs.table_lengths.TableLengths.test_scope.Given as goal
 
 abbrev pub invariant-loop-profile : goal.invariant-loop-profile

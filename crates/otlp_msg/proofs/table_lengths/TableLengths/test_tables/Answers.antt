@@ -1,7 +1,7 @@
 use Rattle.std.proofs.Common.{rules}
 use Rattle.dict_rec.specs.Views.{dictionary_view}
 use Rattle.otlp_msg.specs.Lengths.{lengths_view}
-use Rattle.otlp_msg.proofs.Walked.{tables_walked}
+use Rattle.otlp_msg.proofs.Walks.{tables_walked}
 use Rattle.otlp_msg.proofs.table_lengths.TableLengths.test_tables.Goals as goal
 
 pub returns-in_err-test_entries : goal.returns-in_err-test_entries

@@ -1,6 +1,6 @@
 use Rattle.std.proofs.Common.{◌≡◌, IfOk, subst, None, Some}
 use Rattle.outside.specs.declared.files.Got.{Got}
-use Rattle.outside.proofs.Newest.{found_got_of}
+use Rattle.outside.proofs.NewestWrite.{found_got_of}
 use Rattle.outside.proofs.mem_files.MemFilesFiles.read.Goals as goal
 
 pub returns-in-Some-clause-got : goal.returns-in-Some-clause-got

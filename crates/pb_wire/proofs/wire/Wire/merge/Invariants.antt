@@ -1,7 +1,7 @@
 use Rattle.std.proofs.Common.{◌≡◌, ◌+◌, length}
 use Rattle.schema.specs.Merge.{take_field, merge}
 use Rattle.schema.specs.Run.{run}
-use Rattle.schema.specs.Steps.{trace}
+use Rattle.schema.specs.Decoding.{trace}
 use Rattle.pb_wire.proofs.wire.Wire.merge.Given as goal
 
 abbrev pub invariant-loop-rest : goal.invariant-loop-rest

@@ -1,9 +1,9 @@
 use Rattle.std.proofs.Common.{ap, arith, ◌∙◌}
 use Rattle.schema.specs.Spell.{len_onto, spell_onto}
 use Rattle.schema_laws.proofs.MovedValues.{moved_same}
-use Rattle.schema_laws.proofs.Lawful.{lawful_from}
+use Rattle.schema_laws.proofs.Lawfulness.{lawful_from}
 use Rattle.schema_laws.proofs.Onto.{onto, onto_len}
-use Rattle.schema_laws.proofs.Typed.{typed_read_back}
+use Rattle.schema_laws.proofs.Types.{typed_read_back}
 use Rattle.pb_wire.proofs.wire.Wire.write.Goals as goal
 
 pub put_rows-requires : goal.put_rows-requires

@@ -3,7 +3,7 @@ use Rattle.std.proofs.lemmas.Int.{to_z-of_z}
 use Rattle.schema.specs.Each.{Each}
 use Rattle.schema.specs.Shape.{Attributes, I32, I64}
 use Rattle.schema.specs.Texts.{FitsNumber, bytes_field, number_field, number_to, numbers_text}
-use Rattle.pb_wire.proofs.Begins.{growing}
+use Rattle.pb_wire.proofs.Prefixes.{growing}
 use Rattle.prof_rec.specs.Views.{numbers_view}
 use Rattle.prof_rec.proofs.profile.ProfileWire.put_rows.Goals as goal
 

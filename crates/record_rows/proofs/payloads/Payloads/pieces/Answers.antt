@@ -1,5 +1,5 @@
 use Rattle.pb_wire.specs.Parts.{part_view}
-use Rattle.record_rows.proofs.Written.{three_short}
+use Rattle.record_rows.proofs.ShortPieces.{three_short}
 use Rattle.record_rows.proofs.payloads.Payloads.pieces.Goals as goal
 
 pub returns : goal.returns

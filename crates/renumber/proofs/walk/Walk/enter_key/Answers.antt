@@ -1,20 +1,20 @@
 use Rattle.std.proofs.Common.{subst, refl}
 use Rattle.tables.specs.Keys.{Interned}
-use Rattle.pb_wire.specs.Tables.{table_of}
+use Rattle.pb_wire.specs.TableKinds.{table_of}
 use Rattle.key_tables.specs.Keys.{at}
 use Rattle.renumber.specs.Walk.{State}
-use Rattle.renumber.proofs.Entered.{entered_moves, entered_ready, entered_walk, ready_still}
+use Rattle.renumber.proofs.Entering.{entered_moves, entered_ready, entered_walk, ready_still}
 use Rattle.renumber.proofs.walk.Walk.enter_key.Goals as goal
 
 pub invariant_of-self : goal.invariant_of-self
 invariant_of-self g c =
-    (c.self.invariant.0, ready_still c.self.inside.source.now c.self.inside.tables c.intern.new.self c.self.inside.met c.in_err-new.ensures.same c.self.invariant.1)
+    (c.self.invariant.0, ready_still c.self.inside.source.now c.self.inside.tables c.intern.new.self c.self.inside.memo c.in_err-new.ensures.same c.self.invariant.1)
 
 pub invariant_of-self-2 : goal.invariant_of-self-2
 invariant_of-self-2 g c =
     let T = table_of c.args.kind in
-    let a : State = record { source = c.self.inside.source.now; keys = c.self.inside.tables; met = c.self.inside.met } in
-    let b : State = record { source = c.self.inside.source.now; keys = c.intern.new.self; met = c.note.new.self } in
+    let a : State = record { source = c.self.inside.source.now; keys = c.self.inside.tables; memo = c.self.inside.memo } in
+    let b : State = record { source = c.self.inside.source.now; keys = c.intern.new.self; memo = c.note.new.self } in
     let key = rw (← c.self.view_is) at c.requires.key in
     let place = rw (← c.self.view_is) at c.requires.place in
     let i = subst (λ k. Interned (at c.self.inside.tables T) k (at c.intern.new.self T) c.in_ok-new.new) c.from_blob.ensures c.in_ok-new.ensures.interned in (
@@ -26,8 +26,8 @@ invariant_of-self-2 g c =
 pub returns-clause-moves : goal.returns-clause-moves
 returns-clause-moves g c =
     let T = table_of c.args.kind in
-    let a : State = record { source = c.self.inside.source.now; keys = c.self.inside.tables; met = c.self.inside.met } in
-    let b : State = record { source = c.self.inside.source.now; keys = c.intern.new.self; met = c.note.new.self } in
+    let a : State = record { source = c.self.inside.source.now; keys = c.self.inside.tables; memo = c.self.inside.memo } in
+    let b : State = record { source = c.self.inside.source.now; keys = c.intern.new.self; memo = c.note.new.self } in
     let key = rw (← c.self.view_is) at c.requires.key in
     let place = rw (← c.self.view_is) at c.requires.place in
     let i = subst (λ k. Interned (at c.self.inside.tables T) k (at c.intern.new.self T) c.in_ok-new.new) c.from_blob.ensures c.in_ok-new.ensures.interned in
@@ -37,8 +37,8 @@ returns-clause-moves g c =
 pub returns-clause-walked : goal.returns-clause-walked
 returns-clause-walked g c =
     let T = table_of c.args.kind in
-    let a : State = record { source = c.self.inside.source.now; keys = c.self.inside.tables; met = c.self.inside.met } in
-    let b : State = record { source = c.self.inside.source.now; keys = c.intern.new.self; met = c.note.new.self } in
+    let a : State = record { source = c.self.inside.source.now; keys = c.self.inside.tables; memo = c.self.inside.memo } in
+    let b : State = record { source = c.self.inside.source.now; keys = c.intern.new.self; memo = c.note.new.self } in
     let key = rw (← c.self.view_is) at c.requires.key in
     let place = rw (← c.self.view_is) at c.requires.place in
     let i = subst (λ k. Interned (at c.self.inside.tables T) k (at c.intern.new.self T) c.in_ok-new.new) c.from_blob.ensures c.in_ok-new.ensures.interned in

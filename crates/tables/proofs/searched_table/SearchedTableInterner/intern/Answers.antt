@@ -1,7 +1,7 @@
 use Rattle.std.proofs.Common.{subst, inl, inr, refl, ◌∙◌, ◌≤◌, ◌+◌, length, sym, arith, rules}
 use Rattle.tables.specs.Keys.{Interned, IsAbsent, IsPlace}
 use Rattle.tables.proofs.Search.{place_by_search, absent_by_search, on_err}
-use Rattle.tables.proofs.Tables.{interned_table, interned_distinct, interned_length}
+use Rattle.tables.proofs.Interning.{interned_table, interned_distinct, interned_length}
 use Rattle.tables.proofs.searched_table.SearchedTableInterner.intern.Goals as goal
 
 pub returns-in-Some-clause-ok : goal.returns-in-Some-clause-ok

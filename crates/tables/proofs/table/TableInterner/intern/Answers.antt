@@ -2,7 +2,7 @@
 use Rattle.std.proofs.Common.{subst, ◌≤◌, ◌+◌, length, rules}
 use Rattle.tables.specs.Keys.{Interned, IsAbsent}
 use Rattle.tables.proofs.Search.{absent_by_test, interned_by_test, on_err}
-use Rattle.tables.proofs.Tables.{interned_table, interned_distinct, interned_length}
+use Rattle.tables.proofs.Interning.{interned_table, interned_distinct, interned_length}
 use Rattle.tables.proofs.table.TableInterner.intern.Goals as goal
 
 pub returns-in_err-place-clause-absent : goal.returns-in_err-place-clause-absent

@@ -1,0 +1,87 @@
+-- Records that were walked over join those of a draft.
+use Rattle.std.proofs.Common.{◌≡◌, ◌≤◌, List, ◌++◌, length, map, refl, sym, ap, ◌∙◌, subst}
+use Rattle.schema.specs.Fits.{Fits}
+use Rattle.schema.specs.Messages.{resource_profiles, envelope}
+use Rattle.schema.specs.Moved.{moved}
+use Rattle.schema.specs.Shape.{Value}
+use Rattle.meaning.specs.Canonical.{values}
+use Rattle.meaning.specs.Memo.{index_in}
+use Rattle.meaning.specs.Renumbering.{BecomeEach}
+use Rattle.meaning.proofs.Soundness.{records_sound}
+use Rattle.dict_rec.specs.declared.dictionary.Dictionary.{Dictionary}
+use Rattle.dict_rec.specs.Views.{dictionary_view}
+use Rattle.otlp_msg.specs.Message.{Message, message_limit}
+use Rattle.schema.specs.Prefix.{IsPrefix}
+use Rattle.key_tables.specs.Keys.{ArePrefixes, Keys, at}
+use Rattle.key_tables.proofs.Cuts.{prefixes_itself, prefixes_same}
+use Rattle.renumber.specs.Entries.{IsSource, new_entries, old_entries}
+use Rattle.renumber.specs.Walk.{IsReady, State, WalkedEach}
+use Rattle.renumber.proofs.Texts.{values_renumbered}
+use Rattle.parts.specs.Parts.{RecordPart}
+use Rattle.dict_build.specs.Adding.{AreRenumbered, IsRefused, moved_parts, size_with}
+use Rattle.dict_build.specs.Contents.{IsDraft, contents, whole_text}
+use Rattle.dict_build.specs.declared.fault.BuildFault.{BuildFault}
+use Rattle.dict_build.specs.declared.fault.BuildFault.TheVariants.{OutputLimit, NoMemory}
+use Rattle.dict_build.specs.Draft.{IsFaultOfJoined, StandsForJoined}
+use Rattle.dict_build.specs.Marks.{GoesOn}
+use Rattle.dict_build.specs.Meanings.{Meaning, joined, size_of}
+use Rattle.dict_build.proofs.Acceptance.{joined_written}
+use Rattle.dict_build.proofs.Drafts.{size_is}
+use Rattle.dict_build.proofs.DraftContents.{draft_grown}
+
+-- A walk leads from a, with the tables of a draft, to b, and these are its tables then.
+pub record Led (old : Dictionary) (keys keys' : Keys) (a b : State) : Type 0 where
+  pub source : a.source ≡ old
+  pub from : a.keys ≡ keys
+  pub same : b.source ≡ a.source
+  pub to : keys' ≡ b.keys
+  pub sound : IsSource b.source
+  pub ready : IsReady b.source keys' b.memo
+
+-- So the tables go on. With parts that go on, too, the whole does.
+pub led_on : (keys keys' : Keys) (a b : State) → a.keys ≡ keys → keys' ≡ b.keys → (ps ps' : List RecordPart) → ((base : Keys) → ArePrefixes base a.keys → ArePrefixes base b.keys) → IsPrefix ps ps'
+    → GoesOn (contents keys ps) (contents keys' ps')
+led_on keys keys' a b from to ps ps' kept front =
+    record { keys = prefixes_same keys b.keys keys' to (kept keys (prefixes_same keys keys a.keys from (prefixes_itself keys))); parts = front }
+
+module _ (old : Dictionary) (keys keys' : Keys) (a b : State) (l : Led old keys keys' a b) (rs : List (Value resource_profiles)) where
+  -- what the records that were walked over become
+  become : WalkedEach resource_profiles a b rs → BecomeEach (old_entries old) resource_profiles (values (new_entries keys)) (values (new_entries keys')) rs (map (moved (index_in (at b.memo)) resource_profiles) rs)
+  become w =
+      let ys = map (moved (index_in (at b.memo)) resource_profiles) rs in
+      let ready : IsReady b.source b.keys b.memo = subst (λ (k : Keys). IsReady b.source k b.memo) l.to l.ready in
+      subst (λ (o : Dictionary). BecomeEach (old_entries o) resource_profiles (values (new_entries keys)) (values (new_entries keys')) rs ys) l.source
+      (subst (λ (k : Keys). BecomeEach (old_entries a.source) resource_profiles (values (new_entries k)) (values (new_entries keys')) rs ys) l.from
+      (subst (λ (k : Keys). BecomeEach (old_entries a.source) resource_profiles (values (new_entries a.keys)) (values (new_entries k)) rs ys) (sym l.to)
+      (values_renumbered resource_profiles records_sound a b l.sound ready rs w)))
+
+  -- the message that they are of
+  abbrev m : Message
+  m = (rs, (dictionary_view old, tt))
+
+  -- with their parts after those of a draft there is a draft of all
+  joined_draft : (ps ps' : List RecordPart) (ms : Meaning) → IsDraft (contents keys ps) ms → WalkedEach resource_profiles a b rs → ps' ≡ ps ++ moved_parts b rs
+      → IsDraft (contents keys' ps') (joined ms m)
+  joined_draft ps ps' ms d w e =
+      draft_grown old rs (map (moved (index_in (at b.memo)) resource_profiles) rs) (contents keys ps) (contents keys' ps') ms b.memo d
+      (subst (λ (o : Dictionary). IsReady o keys' b.memo) (l.same ∙ l.source) l.ready) (become w) e
+
+  -- whose size is that of all
+  joined_size : (ps ps' : List RecordPart) (ms : Meaning) → IsDraft (contents keys ps) ms → WalkedEach resource_profiles a b rs → ps' ≡ ps ++ moved_parts b rs
+      → length (whole_text (contents b.keys ps')) ≡ size_of (joined ms m)
+  joined_size ps ps' ms d w e =
+      ap (λ (k : Keys). length (whole_text (contents k ps'))) (sym l.to)
+      ∙ size_is (contents keys' ps') (joined ms m) (length (whole_text (contents keys' ps'))) refl (joined_draft ps ps' ms d w e)
+
+  -- where that is short, it stands for all
+  pub joined_stands : (ps ps' : List RecordPart) → Fits envelope m → AreRenumbered a b ps ps' rs → size_with b ps rs ≤ message_limit
+      → StandsForJoined (contents keys ps) (contents keys' ps') m
+  joined_stands ps ps' fits q few ms s = record {
+    draft = joined_draft ps ps' ms s.draft q.walked q.is;
+    written = joined_written ms m s.written fits (subst (λ n. n ≤ message_limit) (joined_size ps (ps ++ moved_parts b rs) ms s.draft q.walked refl) few);
+  }
+
+  -- a refusal tells it
+  pub refused : (ps : List RecordPart) (fault : BuildFault) → IsRefused a b ps rs fault → IsFaultOfJoined (contents keys ps) m fault
+  refused ps (OutputLimit size) q ms s = (q.1.0 ∙ joined_size ps (ps ++ moved_parts b rs) ms s.draft q.0 refl, q.1.1)
+  refused ps NoMemory q ms s = tt

@@ -1,0 +1,123 @@
+//! Records with new indexes, measured before a byte of them is written. It takes no memory.
+ghost use Rattle.std.specs.Prelude.{◌≡◌, ◌^◌, ◌∷◌, [], map, IfOk};
+ghost use Rattle.schema.specs.Messages.{profile, scope_profiles, resource_profiles};
+ghost use Rattle.schema.specs.Moved.{moved};
+ghost use Rattle.parts.specs.Sums.{sums_from};
+ghost use Rattle.parts.specs.Values.{profile_value_part, resource_value_parts, scope_value_parts};
+ghost use Rattle.prof_rec.specs.Views.{profile_view, resource_profiles_view, scope_profiles_view};
+ghost use Rattle.dict_build.specs.Adding.{AreShorter, profiles_moved, resources_moved, scopes_moved};
+
+use draft_records::Totals;
+use pb_wire::{NewIndexes, NoMemory, Wire, message_len, text_len};
+use prof_rec::{Profile, ResourceProfiles, ScopeProfiles};
+
+// The numbers of a record's fields.
+const HEAD: u32 = 1;
+
+const SCHEMA_URL: u32 = 3;
+
+/// The sums with resource records more.
+///
+/// # Errors
+///
+/// Out of memory, where a text has more than 2^58 bytes or the records would come to more than 2^59.
+pub(crate) fn with_resources<I: NewIndexes>(
+    totals: Totals,
+    records: &[ResourceProfiles],
+    indexes: &I,
+) -> Result<Totals, NoMemory>
+    requires { AreShorter (2 ^ 63) (resources_moved (I.to indexes.now) (map resource_profiles_view records.now)) }
+    ensures { IfOk result (λ sums. sums ≡ sums_from totals (resources_moved (I.to indexes.now) (map resource_profiles_view records.now))) }
+{
+    let mut sums = totals;
+    for record in records {
+        match with_resource(sums, record, indexes) {
+            Ok(more) => sums = more,
+            Err(stop) => return Err(stop),
+        }
+    }
+    Ok(sums)
+}
+
+// The sums with one resource record more.
+fn with_resource<I: NewIndexes>(
+    totals: Totals,
+    found: &ResourceProfiles,
+    indexes: &I,
+) -> Result<Totals, NoMemory>
+    requires { AreShorter (2 ^ 63) (resource_value_parts (moved (I.to indexes.now) resource_profiles (resource_profiles_view found.now))) }
+    ensures { IfOk result (λ sums. sums ≡ sums_from totals (resource_value_parts (moved (I.to indexes.now) resource_profiles (resource_profiles_view found.now)))) }
+{
+    let front = message_len(HEAD, &found.resource, indexes);
+    let back = text_len(SCHEMA_URL, &found.schema_url);
+    let sums = totals.with_resource(front, back)?;
+    let all = with_scopes(sums, found.scope_profiles.as_slice(), indexes)?;
+    Ok(all)
+}
+
+// The sums with scope records more.
+fn with_scopes<I: NewIndexes>(
+    totals: Totals,
+    records: &[ScopeProfiles],
+    indexes: &I,
+) -> Result<Totals, NoMemory>
+    requires { AreShorter (2 ^ 63) (scopes_moved (I.to indexes.now) (map scope_profiles_view records.now)) }
+    ensures { IfOk result (λ sums. sums ≡ sums_from totals (scopes_moved (I.to indexes.now) (map scope_profiles_view records.now))) }
+{
+    let mut sums = totals;
+    for record in records {
+        match with_scope(sums, record, indexes) {
+            Ok(more) => sums = more,
+            Err(stop) => return Err(stop),
+        }
+    }
+    Ok(sums)
+}
+
+// The sums with one scope record more.
+fn with_scope<I: NewIndexes>(
+    totals: Totals,
+    found: &ScopeProfiles,
+    indexes: &I,
+) -> Result<Totals, NoMemory>
+    requires { AreShorter (2 ^ 63) (scope_value_parts (moved (I.to indexes.now) scope_profiles (scope_profiles_view found.now))) }
+    ensures { IfOk result (λ sums. sums ≡ sums_from totals (scope_value_parts (moved (I.to indexes.now) scope_profiles (scope_profiles_view found.now)))) }
+{
+    let front = message_len(HEAD, &found.scope, indexes);
+    let back = text_len(SCHEMA_URL, &found.schema_url);
+    let sums = totals.with_scope(front, back)?;
+    let all = with_profiles(sums, found.profiles.as_slice(), indexes)?;
+    Ok(all)
+}
+
+// The sums with profiles more.
+fn with_profiles<I: NewIndexes>(
+    totals: Totals,
+    profiles: &[Profile],
+    indexes: &I,
+) -> Result<Totals, NoMemory>
+    requires { AreShorter (2 ^ 63) (profiles_moved (I.to indexes.now) (map profile_view profiles.now)) }
+    ensures { IfOk result (λ sums. sums ≡ sums_from totals (profiles_moved (I.to indexes.now) (map profile_view profiles.now))) }
+{
+    let mut sums = totals;
+    for profile in profiles {
+        match with_profile(sums, profile, indexes) {
+            Ok(more) => sums = more,
+            Err(stop) => return Err(stop),
+        }
+    }
+    Ok(sums)
+}
+
+// The sums with one profile more.
+fn with_profile<I: NewIndexes>(
+    totals: Totals,
+    found: &Profile,
+    indexes: &I,
+) -> Result<Totals, NoMemory>
+    requires { AreShorter (2 ^ 63) (profile_value_part (moved (I.to indexes.now) profile (profile_view found.now)) ∷ []) }
+    ensures { IfOk result (λ sums. sums ≡ sums_from totals (profile_value_part (moved (I.to indexes.now) profile (profile_view found.now)) ∷ [])) }
+{
+    let sums = totals.with_profile(found.rows_len(indexes))?;
+    Ok(sums)
+}

@@ -1,0 +1,100 @@
+//! Records with new indexes, put after those of a draft. Each byte is written once.
+ghost use Rattle.std.specs.Prelude.{◌≡◌, ◌++◌, ◌^◌, map, OnOk};
+ghost use Rattle.schema.specs.Messages.{scope_profiles, resource_profiles};
+ghost use Rattle.schema.specs.Moved.{moved};
+ghost use Rattle.parts.specs.Values.{resource_value_parts, scope_value_parts};
+ghost use Rattle.prof_rec.specs.Views.{profile_view, resource_profiles_view, scope_profiles_view};
+ghost use Rattle.schema.specs.Prefix.{IsPrefix};
+ghost use Rattle.dict_build.specs.Adding.{AreShorter, profiles_moved, resources_moved, scopes_moved};
+
+use draft_records::Records;
+use pb_wire::{NewIndexes, NoMemory};
+use prof_rec::{Profile, ResourceProfiles, ScopeProfiles};
+
+/// Puts resource records at the end.
+///
+/// # Errors
+///
+/// Out of memory. What was there is still in front.
+pub(crate) fn put_resources<I: NewIndexes>(
+    records: &mut Records,
+    added: &[ResourceProfiles],
+    indexes: &I,
+) -> Result<(), NoMemory>
+    requires { AreShorter (2 ^ 62) (resources_moved (I.to indexes.now) (map resource_profiles_view added.now)) }
+    ensures ok { OnOk result (records.new ≡ records.old ++ resources_moved (I.to indexes.now) (map resource_profiles_view added.now)) }
+    ensures front { IsPrefix records.old records.new }
+{
+    for record in added {
+        if let Err(stop) = put_resource(records, record, indexes) {
+            return Err(stop);
+        }
+    }
+    Ok(())
+}
+
+// Puts a resource record at the end.
+fn put_resource<I: NewIndexes>(
+    records: &mut Records,
+    added: &ResourceProfiles,
+    indexes: &I,
+) -> Result<(), NoMemory>
+    requires { AreShorter (2 ^ 62) (resource_value_parts (moved (I.to indexes.now) resource_profiles (resource_profiles_view added.now))) }
+    ensures ok { OnOk result (records.new ≡ records.old ++ resource_value_parts (moved (I.to indexes.now) resource_profiles (resource_profiles_view added.now))) }
+    ensures front { IsPrefix records.old records.new }
+{
+    records.begin_resource(&added.resource, &added.schema_url, indexes)?;
+    put_scopes(records, added.scope_profiles.as_slice(), indexes)?;
+    Ok(())
+}
+
+// Puts scope records at the end.
+fn put_scopes<I: NewIndexes>(
+    records: &mut Records,
+    added: &[ScopeProfiles],
+    indexes: &I,
+) -> Result<(), NoMemory>
+    requires { AreShorter (2 ^ 62) (scopes_moved (I.to indexes.now) (map scope_profiles_view added.now)) }
+    ensures ok { OnOk result (records.new ≡ records.old ++ scopes_moved (I.to indexes.now) (map scope_profiles_view added.now)) }
+    ensures front { IsPrefix records.old records.new }
+{
+    for record in added {
+        if let Err(stop) = put_scope(records, record, indexes) {
+            return Err(stop);
+        }
+    }
+    Ok(())
+}
+
+// Puts a scope record at the end.
+fn put_scope<I: NewIndexes>(
+    records: &mut Records,
+    added: &ScopeProfiles,
+    indexes: &I,
+) -> Result<(), NoMemory>
+    requires { AreShorter (2 ^ 62) (scope_value_parts (moved (I.to indexes.now) scope_profiles (scope_profiles_view added.now))) }
+    ensures ok { OnOk result (records.new ≡ records.old ++ scope_value_parts (moved (I.to indexes.now) scope_profiles (scope_profiles_view added.now))) }
+    ensures front { IsPrefix records.old records.new }
+{
+    records.begin_scope(&added.scope, &added.schema_url, indexes)?;
+    put_profiles(records, added.profiles.as_slice(), indexes)?;
+    Ok(())
+}
+
+// Puts profiles at the end.
+fn put_profiles<I: NewIndexes>(
+    records: &mut Records,
+    added: &[Profile],
+    indexes: &I,
+) -> Result<(), NoMemory>
+    requires { AreShorter (2 ^ 62) (profiles_moved (I.to indexes.now) (map profile_view added.now)) }
+    ensures ok { OnOk result (records.new ≡ records.old ++ profiles_moved (I.to indexes.now) (map profile_view added.now)) }
+    ensures front { IsPrefix records.old records.new }
+{
+    for profile in added {
+        if let Err(stop) = records.add_profile(profile, indexes) {
+            return Err(stop);
+        }
+    }
+    Ok(())
+}

@@ -1,0 +1,4 @@
+pub mod Running
+pub mod Writes
+pub mod Kept
+pub mod Marks

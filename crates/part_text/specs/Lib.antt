@@ -1,0 +1,4 @@
+pub mod Extents
+pub mod Payloads
+pub mod Remainders
+pub mod Writes

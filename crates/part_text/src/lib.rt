@@ -1,0 +1,14 @@
+//! The text of parts, written in place: the texts of the parts lie one after the other in one run of bytes, and the texts that
+//! close records in a second one. Tags, lengths and closing texts are put between them.
+#![tactic(auto)]
+
+mod count;
+mod ending;
+mod extent;
+mod forward;
+mod place;
+mod whole;
+
+pub use ending::Ending;
+pub use extent::Extent;
+pub use whole::into_whole_text;

@@ -1,0 +1,5 @@
+pub mod Lengths
+pub mod Sizes
+pub mod Rows
+pub mod Spelling
+pub mod Values
