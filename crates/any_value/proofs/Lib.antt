@@ -6,3 +6,4 @@ pub mod Appends
 pub mod Counts
 pub mod Hashing
 pub mod Types
+pub mod ListLengths

@@ -5,3 +5,4 @@ pub mod Falls
 pub mod MemberViews
 pub mod Equal
 pub mod Hashing
+pub mod ListLengths

@@ -8,11 +8,12 @@ use crate::reading::take_value;
 use crate::value::{KeyValue, Value};
 use crate::writing::put_value;
 use pb_wire::{
-    Blob, Field, NewIndexes, NoMemory, ReadFault, Text, Wire, put_text, take_text, text_len,
+    Blob, Field, NewIndexes, NoMemory, ReadFault, Rows, TextRef, Wire, put_text, take_text,
+    text_len,
 };
 use std::alloc::Global;
 
-impl Wire for KeyValue {
+impl<'a> Rows for KeyValue<'a> {
     ghost shape = { key_value 1 };
 
     ghost view = { attribute_view };
@@ -20,21 +21,6 @@ impl Wire for KeyValue {
     ghost message = { tt };
 
     ghost lawful = { refl };
-
-    fn none(alloc: Global) -> KeyValue {
-        KeyValue {
-            key: Text::begin(alloc),
-            value: Value::Empty,
-        }
-    }
-
-    fn take(&mut self, alloc: Global, field: &Field<'_>) -> Result<(), ReadFault> {
-        match field.number {
-            1 => take_text(&mut self.key, alloc, field),
-            2 => take_value(&mut self.value, alloc, field, 1),
-            _ => Ok(()),
-        }
-    }
 
     fn rows_len<I: NewIndexes>(&self, _indexes: &I) -> u64 {
         text_len(1, &self.key) + value_row_len(2, &self.value)
@@ -45,5 +31,22 @@ impl Wire for KeyValue {
         put_text(out, 1, &self.key)?;
         put_value(out, 2, &self.value)?;
         Ok(())
+    }
+}
+
+impl<'a> Wire<'a> for KeyValue<'a> {
+    fn none(_alloc: Global) -> KeyValue<'a> {
+        KeyValue {
+            key: TextRef::empty(),
+            value: Value::Empty,
+        }
+    }
+
+    fn take(&mut self, alloc: Global, field: &Field<'a>) -> Result<(), ReadFault> {
+        match field.number {
+            1 => take_text(&mut self.key, field),
+            2 => take_value(&mut self.value, alloc, field, 1),
+            _ => Ok(()),
+        }
     }
 }

@@ -7,23 +7,23 @@ ghost use Rattle.std.specs.Cmp;
 
 use crate::value::{KeyValue, KeyValues, Value, Values};
 
-impl PartialEq for Value {
+impl<'a> PartialEq for Value<'a> {
     ghost eq = { λ a b. any_eq (any_view a) (any_view b) };
 
     ghost laws = { Cmp.partial_equiv_from_equiv views_equiv };
 
-    fn eq(&self, other: &Value) -> bool {
+    fn eq(&self, other: &Value<'a>) -> bool {
         same_value(self, other)
     }
 }
 
-impl Eq for Value {
+impl<'a> Eq for Value<'a> {
     ghost laws = { views_equiv };
 }
 
 // Whether two values are the same.
 #[cycle(comparing)]
-fn same_value(one: &Value, other: &Value) -> bool
+fn same_value(one: &Value<'_>, other: &Value<'_>) -> bool
     ensures { result ≡ any_eq (any_view one.now) (any_view other.now) }
 {
     match one {
@@ -61,7 +61,7 @@ fn same_value(one: &Value, other: &Value) -> bool
 
 // Whether two lists of values are the same.
 #[cycle(comparing)]
-fn same_items(one: &Values, other: &Values) -> bool
+fn same_items(one: &Values<'_>, other: &Values<'_>) -> bool
     ensures { result ≡ values_eq (values_of one.now) (values_of other.now) }
 {
     let left = one.inner.as_slice();
@@ -79,7 +79,7 @@ fn same_items(one: &Values, other: &Values) -> bool
 
 // Whether two lists of keys and values are the same.
 #[cycle(comparing)]
-fn same_pairs(one: &KeyValues, other: &KeyValues) -> bool
+fn same_pairs(one: &KeyValues<'_>, other: &KeyValues<'_>) -> bool
     ensures { result ≡ pairs_eq (pairs_of one.now) (pairs_of other.now) }
 {
     let left = one.inner.as_slice();
@@ -97,7 +97,7 @@ fn same_pairs(one: &KeyValues, other: &KeyValues) -> bool
 
 // Whether two keys and their values are the same.
 #[cycle(comparing)]
-fn same_pair(one: &KeyValue, other: &KeyValue) -> bool
+fn same_pair(one: &KeyValue<'_>, other: &KeyValue<'_>) -> bool
     ensures { result ≡ pair_eq (pair_view one.now) (pair_view other.now) }
 {
     one.key.as_bytes() == other.key.as_bytes() && same_value(&one.value, &other.value)

@@ -8,7 +8,7 @@ ghost use Rattle.any_value.specs.Views.{any_view};
 use crate::value::{KeyValue, KeyValues, Value, Values};
 use std::hash::{Hash, Hasher};
 
-impl Hash for Value {
+impl<'a> Hash for Value<'a> {
     ghost hash_input = { λ v. any_writes (any_view v) };
 
     ghost respects_eq = { same_writes };
@@ -20,7 +20,7 @@ impl Hash for Value {
 
 // Feeds a value.
 #[cycle(feeding)]
-fn feed_value<H: Hasher>(value: &Value, state: &mut H)
+fn feed_value<H: Hasher>(value: &Value<'_>, state: &mut H)
     ensures { state.new ≡ fold H.write state.old (any_writes (any_view value.now)) }
 {
     match value {
@@ -58,7 +58,7 @@ fn feed_value<H: Hasher>(value: &Value, state: &mut H)
 
 // Feeds the elements of a list of values.
 #[cycle(feeding)]
-fn feed_items<H: Hasher>(items: &Values, state: &mut H)
+fn feed_items<H: Hasher>(items: &Values<'_>, state: &mut H)
     ensures { state.new ≡ fold H.write state.old (values_writes (values_of items.now)) }
 {
     for item in &items.inner {
@@ -70,7 +70,7 @@ fn feed_items<H: Hasher>(items: &Values, state: &mut H)
 
 // Feeds the elements of a list of keys and values.
 #[cycle(feeding)]
-fn feed_pairs<H: Hasher>(pairs: &KeyValues, state: &mut H)
+fn feed_pairs<H: Hasher>(pairs: &KeyValues<'_>, state: &mut H)
     ensures { state.new ≡ fold H.write state.old (pairs_writes (pairs_of pairs.now)) }
 {
     for pair in &pairs.inner {
@@ -81,7 +81,7 @@ fn feed_pairs<H: Hasher>(pairs: &KeyValues, state: &mut H)
 
 // Feeds an element of a list of keys and values.
 #[cycle(feeding)]
-fn feed_pair<H: Hasher>(pair: &KeyValue, state: &mut H)
+fn feed_pair<H: Hasher>(pair: &KeyValue<'_>, state: &mut H)
     ensures { state.new ≡ fold H.write state.old ((fed.u8 1 ++ bytes_writes pair.now.key) ++ any_writes (any_view pair.now.value)) }
 {
     state.write_u8(1);

@@ -6,7 +6,7 @@ use crate::value::Value;
 
 /// Whether two values are the same: `==` says true of these, and of no others.
 #[tactic(auto, using(crate::specs::Equal::any_same, crate::specs::Equal::any_alike))]
-pub fn is_same_value(one: &Value, other: &Value) -> bool
+pub fn is_same_value<'a>(one: &Value<'a>, other: &Value<'a>) -> bool
     ensures { (result ≡ true) ↔ (any_view one.now ≡ any_view other.now) }
 {
     one == other

@@ -16,7 +16,7 @@ ghost use Rattle.any_value.specs.Views.{any_view, pair_view};
 use crate::member::{Member, member_of};
 use crate::value::{KeyValue, KeyValues, Value, Values};
 use pb_wire::{
-    Blob, Field, Number, Payload, Pieces, ReadFault, Reason, Text, WireFault, next_field,
+    BytesRef, Field, Number, Payload, Pieces, ReadFault, Reason, TextRef, WireFault, next_field,
     take_text, text_of,
 };
 use std::alloc::Global;
@@ -24,10 +24,10 @@ use std::mem;
 
 // Takes the payload of a value over the value so far. One for which no level is left is too deep, and is not parsed.
 #[cycle(reading)]
-fn in_value(
-    value: &mut Value,
+fn in_value<'a>(
+    value: &mut Value<'a>,
     alloc: Global,
-    bytes: &[u8],
+    bytes: &'a [u8],
     at: u64,
     end: u64,
     left: u32,
@@ -47,10 +47,10 @@ fn in_value(
 
 // Takes the fields of bytes that begin at the place `base`, with so many levels left for the values inside.
 #[cycle(reading)]
-fn take_members(
-    value: &mut Value,
+fn take_members<'a>(
+    value: &mut Value<'a>,
     alloc: Global,
-    bytes: &[u8],
+    bytes: &'a [u8],
     base: u64,
     left: u32,
 ) -> Result<(), ReadFault>
@@ -74,10 +74,10 @@ fn take_members(
 
 // Takes a field; one that is no member is skipped.
 #[cycle(reading)]
-fn take_member(
-    value: &mut Value,
+fn take_member<'a>(
+    value: &mut Value<'a>,
     alloc: Global,
-    field: &Field<'_>,
+    field: &Field<'a>,
     left: u32,
 ) -> Result<(), ReadFault>
     requires inside { length (bytes_of (payload_view field.now.payload)) ≤ field.now.end }
@@ -89,7 +89,7 @@ fn take_member(
     };
     match member {
         Member::Text(bytes) => {
-            *value = Value::Text(text_of(alloc, bytes, field.at)?);
+            *value = Value::Text(text_of(bytes, field.at)?);
             Ok(())
         }
         Member::Flag(number) => {
@@ -107,14 +107,14 @@ fn take_member(
         Member::Items(bytes) => take_items(value, alloc, bytes, field.end, left),
         Member::Pairs(bytes) => take_pairs(value, alloc, bytes, field.end, left),
         Member::Raw(bytes) => {
-            *value = Value::Raw(Blob::copy_of(alloc, bytes)?);
+            *value = Value::Raw(BytesRef::of(bytes));
             Ok(())
         }
     }
 }
 
 // The elements of a value, which are none where it is another member.
-fn items_of(value: &mut Value, alloc: Global) -> Values
+fn items_of<'a>(value: &mut Value<'a>, alloc: Global) -> Values<'a>
     ensures { result ≡ items_in (any_view value.old) }
 {
     match mem::replace(value, Value::Empty) {
@@ -124,7 +124,7 @@ fn items_of(value: &mut Value, alloc: Global) -> Values
 }
 
 // The keys and values of a value, which are none where it is another member.
-fn pairs_of(value: &mut Value, alloc: Global) -> KeyValues
+fn pairs_of<'a>(value: &mut Value<'a>, alloc: Global) -> KeyValues<'a>
     ensures { result ≡ pairs_in (any_view value.old) }
 {
     match mem::replace(value, Value::Empty) {
@@ -135,10 +135,10 @@ fn pairs_of(value: &mut Value, alloc: Global) -> KeyValues
 
 // Takes the payload of a list of values: its elements come after those of a value that is such a list.
 #[cycle(reading)]
-fn take_items(
-    value: &mut Value,
+fn take_items<'a>(
+    value: &mut Value<'a>,
     alloc: Global,
-    bytes: &[u8],
+    bytes: &'a [u8],
     end: u64,
     left: u32,
 ) -> Result<(), ReadFault>
@@ -154,10 +154,10 @@ fn take_items(
 
 // Takes the payload of a list of keys and values: its elements come after those of a value that is such a list.
 #[cycle(reading)]
-fn take_pairs(
-    value: &mut Value,
+fn take_pairs<'a>(
+    value: &mut Value<'a>,
     alloc: Global,
-    bytes: &[u8],
+    bytes: &'a [u8],
     end: u64,
     left: u32,
 ) -> Result<(), ReadFault>
@@ -173,10 +173,10 @@ fn take_pairs(
 
 // Takes the fields of a list of values, which begin at the place `base`.
 #[cycle(reading)]
-fn in_items(
-    items: &mut Values,
+fn in_items<'a>(
+    items: &mut Values<'a>,
     alloc: Global,
-    bytes: &[u8],
+    bytes: &'a [u8],
     base: u64,
     left: u32,
 ) -> Result<(), ReadFault>
@@ -200,10 +200,10 @@ fn in_items(
 
 // Takes an element of a list of values.
 #[cycle(reading)]
-fn add_item(
-    items: &mut Values,
+fn add_item<'a>(
+    items: &mut Values<'a>,
     alloc: Global,
-    field: &Field<'_>,
+    field: &Field<'a>,
     left: u32,
 ) -> Result<(), ReadFault>
     requires inside { length (bytes_of (payload_view field.now.payload)) ≤ field.now.end }
@@ -226,10 +226,10 @@ fn add_item(
 
 // Takes the fields of a list of keys and values, which begin at the place `base`.
 #[cycle(reading)]
-fn in_pairs(
-    pairs: &mut KeyValues,
+fn in_pairs<'a>(
+    pairs: &mut KeyValues<'a>,
     alloc: Global,
-    bytes: &[u8],
+    bytes: &'a [u8],
     base: u64,
     left: u32,
 ) -> Result<(), ReadFault>
@@ -253,10 +253,10 @@ fn in_pairs(
 
 // Takes an element of a list of keys and values.
 #[cycle(reading)]
-fn add_pair(
-    pairs: &mut KeyValues,
+fn add_pair<'a>(
+    pairs: &mut KeyValues<'a>,
     alloc: Global,
-    field: &Field<'_>,
+    field: &Field<'a>,
     left: u32,
 ) -> Result<(), ReadFault>
     requires inside { length (bytes_of (payload_view field.now.payload)) ≤ field.now.end }
@@ -269,7 +269,7 @@ fn add_pair(
     match field.payload {
         Payload::Bytes(bytes) => {
             let mut pair = KeyValue {
-                key: Text::begin(alloc),
+                key: TextRef::empty(),
                 value: Value::Empty,
             };
             in_pair(
@@ -288,10 +288,10 @@ fn add_pair(
 
 // Takes the fields of a key and its value, which begin at the place `base`.
 #[cycle(reading)]
-fn in_pair(
-    pair: &mut KeyValue,
+fn in_pair<'a>(
+    pair: &mut KeyValue<'a>,
     alloc: Global,
-    bytes: &[u8],
+    bytes: &'a [u8],
     base: u64,
     left: u32,
 ) -> Result<(), ReadFault>
@@ -315,10 +315,10 @@ fn in_pair(
 
 // Takes a field of a key and its value.
 #[cycle(reading)]
-fn take_pair(
-    pair: &mut KeyValue,
+fn take_pair<'a>(
+    pair: &mut KeyValue<'a>,
     alloc: Global,
-    field: &Field<'_>,
+    field: &Field<'a>,
     left: u32,
 ) -> Result<(), ReadFault>
     requires inside { length (bytes_of (payload_view field.now.payload)) ≤ field.now.end }
@@ -327,7 +327,7 @@ fn take_pair(
 {
     match field.number {
         1 => {
-            take_text(&mut pair.key, alloc, field)?;
+            take_text(&mut pair.key, field)?;
             Ok(())
         }
         2 => match field.payload {
@@ -342,10 +342,10 @@ fn take_pair(
 }
 
 /// Takes an occurrence of a singular row of this depth: its occurrences are read as their payloads joined.
-pub fn take_value(
-    slot: &mut Value,
+pub fn take_value<'a>(
+    slot: &mut Value<'a>,
     alloc: Global,
-    field: &Field<'_>,
+    field: &Field<'a>,
     depth: u32,
 ) -> Result<(), ReadFault>
     requires inside { length (bytes_of (payload_view field.now.payload)) ≤ field.now.end }
@@ -361,7 +361,11 @@ pub fn take_value(
 
 /// The value of the joined payloads of one AnyValue, which has this depth, or the first fault in written order. One that
 /// is in no other has depth 1.
-pub fn decode_value(alloc: Global, pieces: &Pieces<'_>, depth: u32) -> Result<Value, ReadFault>
+pub fn decode_value<'a>(
+    alloc: Global,
+    pieces: &Pieces<'a>,
+    depth: u32,
+) -> Result<Value<'a>, ReadFault>
     requires first { 1 ≤ depth }
     requires last { depth ≤ 64 }
     ensures { Reads any_view result (merge_any_all (any_levels (depth + 1)) AnyValue.Empty pieces.now) }

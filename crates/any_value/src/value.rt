@@ -1,38 +1,40 @@
 //! A value that holds values of its own kind, and the lists in it.
-use pb_wire::{Blob, Text};
+use pb_wire::{BytesRef, TextRef};
 use std::marker::Model;
 
 /// A value of an attribute: one of eight forms. A double is its eight bytes as they are stored.
 #[cycle(value)]
 #[derive(Debug, Drop)]
-pub enum Value {
+pub enum Value<'a> {
     /// No member is set.
     Empty,
-    Text(Text),
+    Text(TextRef<'a>),
     Flag(bool),
     Int(i64),
     Double([u8; 8]),
-    Items(Values),
-    Pairs(KeyValues),
-    Raw(Blob),
+    Items(Values<'a>),
+    Pairs(KeyValues<'a>),
+    Raw(BytesRef<'a>),
 }
 
 /// A key and its value.
 #[cycle(value)]
 #[derive(Debug, Drop)]
-pub struct KeyValue {
-    pub key: Text,
-    pub value: Value,
+pub struct KeyValue<'a> {
+    pub key: TextRef<'a>,
+    pub value: Value<'a>,
 }
 
 /// Values in order.
 #[cycle(value)]
 #[derive(Debug, Drop)]
-pub struct Values {
-    pub(crate) inner: Vec<Value>,
+pub struct Values<'a> {
+    pub(crate) inner: Vec<Value<'a>>,
+    // The length of its elements' canonical spelling, in bytes.
+    pub(crate) bytes: u64,
 }
 
-impl Model for Values {
+impl<'a> Model for Values<'a> {
     ghost use Rattle.std.specs.Prelude.{List, map};
     ghost use Rattle.std.specs.Coded.{coded_list};
     ghost use Rattle.schema.specs.AnyValue.{AnyValue};
@@ -47,6 +49,12 @@ impl Model for Values {
 
     ghost view = { λ a. map any_view a.inner.items };
 
+    ghost use Rattle.schema.specs.AnySpell.{values_text};
+    ghost use Rattle.schema.specs.AnyValue.{values_of};
+    ghost use Rattle.any_value.specs.ListLengths.{KeepsLength};
+
+    ghost invariant = { λ a. KeepsLength a.bytes (values_text (values_of (map any_view a.inner.items))) };
+
     ghost size = { list_size };
 
     ghost use Rattle.any_value.specs.Falls.{values_fall};
@@ -58,11 +66,13 @@ impl Model for Values {
 /// Keys and their values in order.
 #[cycle(value)]
 #[derive(Debug, Drop)]
-pub struct KeyValues {
-    pub(crate) inner: Vec<KeyValue>,
+pub struct KeyValues<'a> {
+    pub(crate) inner: Vec<KeyValue<'a>>,
+    // The length of its elements' canonical spelling, in bytes.
+    pub(crate) bytes: u64,
 }
 
-impl Model for KeyValues {
+impl<'a> Model for KeyValues<'a> {
     ghost use Rattle.std.specs.Prelude.{List, map};
     ghost use Rattle.std.specs.Coded.{coded_list};
     ghost use Rattle.schema.specs.AnyValue as any;
@@ -76,6 +86,11 @@ impl Model for KeyValues {
     ghost use Rattle.any_value.specs.Views.{pair_view};
 
     ghost view = { λ a. map pair_view a.inner.items };
+
+    ghost use Rattle.schema.specs.AnySpell.{pairs_text};
+    ghost use Rattle.any_value.specs.ListLengths.{KeepsLength};
+
+    ghost invariant = { λ a. KeepsLength a.bytes (pairs_text (any.pairs_of (map pair_view a.inner.items))) };
 
     ghost size = { pair_list_size };
 

@@ -10,7 +10,7 @@ ghost use Rattle.schema.specs.Prefix.{IsPrefix};
 ghost use Rattle.pb_wire.specs.View.{payload_view};
 ghost use Rattle.any_value.specs.Views.{IsPairTyped, any_view};
 
-use crate::lengths::{items_len, pair_len, pairs_len, value_len};
+use crate::lengths::{pair_len, value_len};
 use crate::value::{KeyValue, KeyValues, Value, Values};
 use pb_wire::{Blob, NoMemory, Number, Payload, put_field, put_text, put_varint};
 
@@ -52,7 +52,7 @@ fn push_double(out: &mut Blob, bytes: [u8; 8]) -> Result<(), NoMemory>
 // Puts the canonical payload of a value.
 #[cycle(writing)]
 #[tactic(auto, using(pb_wire::proofs::Prefixes::growing, crate::proofs::Appends::put_none))]
-fn push_value(out: &mut Blob, value: &Value) -> Result<(), NoMemory>
+fn push_value(out: &mut Blob, value: &Value<'_>) -> Result<(), NoMemory>
     requires { length (any_text (any_view value.now)) < 2 ^ 63 }
     ensures ok { OnOk result (out.new ≡ out.old ++ any_text (any_view value.now)) }
     ensures err { OnErr result (IsPrefix out.old out.new) }
@@ -73,13 +73,13 @@ fn push_value(out: &mut Blob, value: &Value) -> Result<(), NoMemory>
 // Puts a list of values after its tag and length.
 #[cycle(writing)]
 #[tactic(auto, using(pb_wire::proofs::Prefixes::growing, schema_laws::proofs::Onto::long_len, schema_laws::proofs::Onto::long_onto))]
-fn push_items(out: &mut Blob, items: &Values) -> Result<(), NoMemory>
+fn push_items(out: &mut Blob, items: &Values<'_>) -> Result<(), NoMemory>
     requires { length (long_field 5 (values_text (values_of items.now))) < 2 ^ 63 }
     ensures ok { OnOk result (out.new ≡ out.old ++ long_field 5 (values_text (values_of items.now))) }
     ensures err { OnErr result (IsPrefix out.old out.new) }
     ensures typed { OnOk result (AreTyped (values_of items.now)) }
 {
-    push_head(out, 5, items_len(items))?;
+    push_head(out, 5, items.bytes)?;
     push_each_item(out, items)?;
     Ok(())
 }
@@ -87,13 +87,13 @@ fn push_items(out: &mut Blob, items: &Values) -> Result<(), NoMemory>
 // Puts a list of keys and values after its tag and length.
 #[cycle(writing)]
 #[tactic(auto, using(pb_wire::proofs::Prefixes::growing, schema_laws::proofs::Onto::long_len, schema_laws::proofs::Onto::long_onto))]
-fn push_pairs(out: &mut Blob, pairs: &KeyValues) -> Result<(), NoMemory>
+fn push_pairs(out: &mut Blob, pairs: &KeyValues<'_>) -> Result<(), NoMemory>
     requires { length (long_field 6 (pairs_text (pairs_of pairs.now))) < 2 ^ 63 }
     ensures ok { OnOk result (out.new ≡ out.old ++ long_field 6 (pairs_text (pairs_of pairs.now))) }
     ensures err { OnErr result (IsPrefix out.old out.new) }
     ensures typed { OnOk result (ArePairsTyped (pairs_of pairs.now)) }
 {
-    push_head(out, 6, pairs_len(pairs))?;
+    push_head(out, 6, pairs.bytes)?;
     push_each_pair(out, pairs)?;
     Ok(())
 }
@@ -101,7 +101,7 @@ fn push_pairs(out: &mut Blob, pairs: &KeyValues) -> Result<(), NoMemory>
 // Puts each element after its own tag and length, also an empty one.
 #[cycle(writing)]
 #[tactic(auto, using(pb_wire::proofs::Types::each_next, pb_wire::proofs::Prefixes::growing))]
-fn push_each_item(out: &mut Blob, items: &Values) -> Result<(), NoMemory>
+fn push_each_item(out: &mut Blob, items: &Values<'_>) -> Result<(), NoMemory>
     requires { length (values_text (values_of items.now)) < 2 ^ 63 }
     ensures ok { OnOk result (out.new ≡ out.old ++ values_text (values_of items.now)) }
     ensures err { OnErr result (IsPrefix out.old out.new) }
@@ -118,7 +118,7 @@ fn push_each_item(out: &mut Blob, items: &Values) -> Result<(), NoMemory>
 // Puts an element of a list of values after its tag and length.
 #[cycle(writing)]
 #[tactic(auto, using(pb_wire::proofs::Prefixes::growing, schema_laws::proofs::Onto::long_len, schema_laws::proofs::Onto::long_onto))]
-fn push_item(out: &mut Blob, item: &Value) -> Result<(), NoMemory>
+fn push_item(out: &mut Blob, item: &Value<'_>) -> Result<(), NoMemory>
     requires { length (long_field 1 (any_text (any_view item.now))) < 2 ^ 63 }
     ensures ok { OnOk result (out.new ≡ out.old ++ long_field 1 (any_text (any_view item.now))) }
     ensures err { OnErr result (IsPrefix out.old out.new) }
@@ -132,7 +132,7 @@ fn push_item(out: &mut Blob, item: &Value) -> Result<(), NoMemory>
 // Puts each element after its own tag and length, also an empty one.
 #[cycle(writing)]
 #[tactic(auto, using(pb_wire::proofs::Types::each_next, pb_wire::proofs::Prefixes::growing))]
-fn push_each_pair(out: &mut Blob, pairs: &KeyValues) -> Result<(), NoMemory>
+fn push_each_pair(out: &mut Blob, pairs: &KeyValues<'_>) -> Result<(), NoMemory>
     requires { length (pairs_text (pairs_of pairs.now)) < 2 ^ 63 }
     ensures ok { OnOk result (out.new ≡ out.old ++ pairs_text (pairs_of pairs.now)) }
     ensures err { OnErr result (IsPrefix out.old out.new) }
@@ -149,7 +149,7 @@ fn push_each_pair(out: &mut Blob, pairs: &KeyValues) -> Result<(), NoMemory>
 // Puts a key and its value, each of which is left out where it is empty, after a tag and a length.
 #[cycle(writing)]
 #[tactic(auto, using(pb_wire::proofs::Prefixes::growing, crate::proofs::Appends::pair_text_len, crate::proofs::Appends::pair_onto, schema_laws::proofs::Onto::long_len, schema_laws::proofs::Onto::long_onto))]
-fn push_pair(out: &mut Blob, pair: &KeyValue) -> Result<(), NoMemory>
+fn push_pair(out: &mut Blob, pair: &KeyValue<'_>) -> Result<(), NoMemory>
     requires { length (long_field 1 (pair_text pair.now.key (any_text (any_view pair.now.value)))) < 2 ^ 63 }
     ensures ok { OnOk result (out.new ≡ out.old ++ long_field 1 (pair_text pair.now.key (any_text (any_view pair.now.value)))) }
     ensures err { OnErr result (IsPrefix out.old out.new) }
@@ -163,8 +163,8 @@ fn push_pair(out: &mut Blob, pair: &KeyValue) -> Result<(), NoMemory>
 
 /// Puts the row of a value, unless its payload is empty.
 #[cycle(writing)]
-#[tactic(auto, using(crate::proofs::Types::none_typed, pb_wire::proofs::Prefixes::growing, schema_laws::proofs::Lengths::bytes_field_le, pb_wire::proofs::Rows::left_out, pb_wire::proofs::Rows::bytes_some, schema_laws::proofs::Onto::long_onto))]
-pub fn put_value(out: &mut Blob, number: u32, value: &Value) -> Result<(), NoMemory>
+#[tactic(auto, using(crate::proofs::Types::none_typed, pb_wire::proofs::Prefixes::growing, schema_laws::proofs::Lengths::bytes_field_le, pb_wire::proofs::RowTexts::left_out, pb_wire::proofs::RowTexts::bytes_some, schema_laws::proofs::Onto::long_onto))]
+pub fn put_value(out: &mut Blob, number: u32, value: &Value<'_>) -> Result<(), NoMemory>
     requires below { number < 2 ^ 29 }
     requires room { length (bytes_field number (any_text (any_view value.now))) < 2 ^ 63 }
     ensures ok { OnOk result (out.new ≡ out.old ++ bytes_field number (any_text (any_view value.now))) }
@@ -181,7 +181,7 @@ pub fn put_value(out: &mut Blob, number: u32, value: &Value) -> Result<(), NoMem
 }
 
 /// Puts the canonical payload of a value at the end, all of it or nothing. It is read as this value where enough levels are left.
-pub fn encode_value(value: &Value, out: &mut Blob) -> Result<(), NoMemory>
+pub fn encode_value(value: &Value<'_>, out: &mut Blob) -> Result<(), NoMemory>
     requires { length (any_text (any_view value.now)) < 2 ^ 63 }
     ensures ok { OnOk result (out.new ≡ out.old ++ any_text (any_view value.now)) }
     ensures err { OnErr result (out.new ≡ out.old) }

@@ -82,6 +82,40 @@ fn try_a_few<T: Interner<EntryKey>, L: Ledger>(
     Ok(())
 }
 
+// The answers for the bytes `a`, `b` and `a`. That they are three steps is proved.
+fn ask_three_copies<L: Ledger>(
+    alloc: Global,
+    table: &mut Hashed,
+    steps: &mut Steps<L>,
+) -> Result<[u32; 3], NoMemory>
+    requires { length table.old < 1000 }
+    ensures { OnOk result (steps.new ≡ steps.old + 3) }
+{
+    let first = table.intern_copy(alloc, b"a", steps)?;
+    let second = table.intern_copy(alloc, b"b", steps)?;
+    let third = table.intern_copy(alloc, b"a", steps)?;
+    Ok([first, second, third])
+}
+
+// In a table that holds `b` alone.
+fn try_copies<L: Ledger>(
+    rt: &impl Abort,
+    alloc: Global,
+    table: &mut Hashed,
+    blank: Blank,
+) -> Result<(), Fail>
+    requires name { blank.name ≡ L.name }
+    requires parts { blank.parts ≡ L.parts }
+    requires some { 0 < blank.parts }
+    requires few { length table.old < 1000 }
+{
+    let mut steps = Steps::<L>::begin(blank);
+    assert_eq!(rt; ask_three_copies(alloc, table, &mut steps)?, [1, 0, 1]);
+    assert_eq!(rt; table.len(), 2);
+    assert_eq!(rt; table.get(1).map(EntryKey::as_slice), Some(b"a".as_slice()));
+    Ok(())
+}
+
 // The next number of a simple generator.
 fn next_number(state: u32) -> u32 {
     state.wrapping_mul(1_664_525).wrapping_add(1_013_904_223)
@@ -141,6 +175,14 @@ fn a_hashed_table_answers_first_places(rt: HostRuntime) -> Result<(), Fail> {
 fn a_searched_table_answers_first_places(rt: HostRuntime) -> Result<(), Fail> {
     let mut table = SearchedTable::begin(rt.alloc());
     try_a_few::<Searched, Brand>(&rt, rt.alloc(), &mut table, Blank::new(1))
+}
+
+#[test]
+fn bytes_are_copied_where_they_are_absent(rt: HostRuntime) -> Result<(), Fail> {
+    let alloc = rt.alloc();
+    let key = EntryKey::copy_of(alloc, b"b")?;
+    let mut table = Table::start(alloc, BuildHasherDefault::<FoldHasher>::new(), key)?;
+    try_copies::<Brand>(&rt, alloc, &mut table, Blank::new(1))
 }
 
 #[test]

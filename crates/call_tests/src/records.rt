@@ -6,14 +6,14 @@ use any_value::{KeyValue, KeyValues, Value, Values, take_value};
 use commands::Texts;
 use dict_rec::{Attr, Dictionary, Function, Line, Link, Location, Mapping, TableKind};
 use otlp_msg::{Holder, Path, ProfilePos, Refusal};
-use pb_wire::{Field, Payload, ReadFault, Reason, Text, Wire, WireFault};
+use pb_wire::{Field, Payload, ReadFault, Reason, Text, TextRef, Wire, WireFault};
 use prof_rec::{Profile, ResourceProfiles, Sample, Samples, ScopeProfiles};
 use std::alloc::Global;
 use std::process::Abort;
 use std::test::Fail;
 
 // The record that these bytes are.
-fn read<T: Wire>(alloc: Global, bytes: &[u8]) -> Result<T, Fail>
+fn read<'a, T: Wire<'a>>(alloc: Global, bytes: &'a [u8]) -> Result<T, Fail>
     requires { length bytes.now < 2 ^ 32 }
 {
     let mut record = T::none(alloc);
@@ -264,7 +264,7 @@ fn gets_values(rt: &impl Abort, alloc: Global) -> Result<(), Fail> {
 fn gets_pairs(rt: &impl Abort, alloc: Global) -> Result<(), Fail> {
     let mut pairs = KeyValues::begin(alloc);
     pairs.add(KeyValue {
-        key: Text::copy_of(alloc, "k")?,
+        key: TextRef::of("k"),
         value: Value::Int(2),
     })?;
     let pair = pairs.get(0).ok_or("no pair")?;

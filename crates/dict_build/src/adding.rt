@@ -36,8 +36,8 @@ pub(crate) fn add_within_limit<S: BuildHasher + Drop, L: Ledger>(
     tables: &mut KeyTables<S>,
     records: &mut Records,
     alloc: Global,
-    dictionary: &Dictionary,
-    added: &[ResourceProfiles],
+    dictionary: &Dictionary<'_>,
+    added: &[ResourceProfiles<'_>],
     steps: &mut Steps<L>,
 ) -> Result<(), BuildFault>
     requires stands { StandsForSome (contents tables.old records.old) }
@@ -60,8 +60,8 @@ fn add_records<S: BuildHasher + Drop, L: Ledger>(
     tables: &mut KeyTables<S>,
     records: &mut Records,
     alloc: Global,
-    dictionary: &Dictionary,
-    added: &[ResourceProfiles],
+    dictionary: &Dictionary<'_>,
+    added: &[ResourceProfiles<'_>],
     steps: &mut Steps<L>,
 ) -> Result<(), BuildFault>
     requires stands { StandsForSome (contents tables.old records.old) }
@@ -82,10 +82,10 @@ fn add_records<S: BuildHasher + Drop, L: Ledger>(
 
 // Makes the indexes of records known, measures the records with their new indexes, and puts them at the end.
 fn put_records<S: BuildHasher + Drop, L: Ledger>(
-    walk: &mut Walk<'_, S>,
+    walk: &mut Walk<'_, '_, S>,
     records: &mut Records,
     alloc: Global,
-    added: &[ResourceProfiles],
+    added: &[ResourceProfiles<'_>],
     steps: &mut Steps<L>,
 ) -> Result<(), BuildFault>
     requires { IsPart (records_of resource_profiles) walk.old.source (map resource_profiles_view added.now, tt) }
@@ -109,7 +109,7 @@ fn put_records<S: BuildHasher + Drop, L: Ledger>(
 fn put_in_room<I: NewIndexes>(
     records: &mut Records,
     room: usize,
-    added: &[ResourceProfiles],
+    added: &[ResourceProfiles<'_>],
     indexes: &I,
 ) -> Result<(), NoMemory>
     requires { AreShorter (2 ^ 62) (resources_moved (I.to indexes.now) (map resource_profiles_view added.now)) }
@@ -124,9 +124,9 @@ fn put_in_room<I: NewIndexes>(
 // Refuses records with which the whole is longer than a message may be. Gives the bytes that their text takes, for which room is
 // made; no contract depends on this number.
 fn measured<S: BuildHasher + Drop>(
-    walk: &Walk<'_, S>,
+    walk: &Walk<'_, '_, S>,
     records: &Records,
-    added: &[ResourceProfiles],
+    added: &[ResourceProfiles<'_>],
 ) -> Result<usize, BuildFault>
     requires { IsPart (records_of resource_profiles) walk.now.source (map resource_profiles_view added.now, tt) }
     ensures small { OnOk result (size_with walk.now records.now (map resource_profiles_view added.now) ≤ message_limit) }

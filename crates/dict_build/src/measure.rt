@@ -8,7 +8,7 @@ ghost use Rattle.prof_rec.specs.Views.{profile_view, resource_profiles_view, sco
 ghost use Rattle.dict_build.specs.Adding.{AreShorter, profiles_moved, resources_moved, scopes_moved};
 
 use draft_records::Totals;
-use pb_wire::{NewIndexes, NoMemory, Wire, message_len, text_len};
+use pb_wire::{NewIndexes, NoMemory, Rows, message_len, text_len};
 use prof_rec::{Profile, ResourceProfiles, ScopeProfiles};
 
 // The numbers of a record's fields.
@@ -23,7 +23,7 @@ const SCHEMA_URL: u32 = 3;
 /// Out of memory, where a text has more than 2^58 bytes or the records would come to more than 2^59.
 pub(crate) fn with_resources<I: NewIndexes>(
     totals: Totals,
-    records: &[ResourceProfiles],
+    records: &[ResourceProfiles<'_>],
     indexes: &I,
 ) -> Result<Totals, NoMemory>
     requires { AreShorter (2 ^ 63) (resources_moved (I.to indexes.now) (map resource_profiles_view records.now)) }
@@ -42,7 +42,7 @@ pub(crate) fn with_resources<I: NewIndexes>(
 // The sums with one resource record more.
 fn with_resource<I: NewIndexes>(
     totals: Totals,
-    found: &ResourceProfiles,
+    found: &ResourceProfiles<'_>,
     indexes: &I,
 ) -> Result<Totals, NoMemory>
     requires { AreShorter (2 ^ 63) (resource_value_parts (moved (I.to indexes.now) resource_profiles (resource_profiles_view found.now))) }
@@ -58,7 +58,7 @@ fn with_resource<I: NewIndexes>(
 // The sums with scope records more.
 fn with_scopes<I: NewIndexes>(
     totals: Totals,
-    records: &[ScopeProfiles],
+    records: &[ScopeProfiles<'_>],
     indexes: &I,
 ) -> Result<Totals, NoMemory>
     requires { AreShorter (2 ^ 63) (scopes_moved (I.to indexes.now) (map scope_profiles_view records.now)) }
@@ -77,7 +77,7 @@ fn with_scopes<I: NewIndexes>(
 // The sums with one scope record more.
 fn with_scope<I: NewIndexes>(
     totals: Totals,
-    found: &ScopeProfiles,
+    found: &ScopeProfiles<'_>,
     indexes: &I,
 ) -> Result<Totals, NoMemory>
     requires { AreShorter (2 ^ 63) (scope_value_parts (moved (I.to indexes.now) scope_profiles (scope_profiles_view found.now))) }
@@ -93,7 +93,7 @@ fn with_scope<I: NewIndexes>(
 // The sums with profiles more.
 fn with_profiles<I: NewIndexes>(
     totals: Totals,
-    profiles: &[Profile],
+    profiles: &[Profile<'_>],
     indexes: &I,
 ) -> Result<Totals, NoMemory>
     requires { AreShorter (2 ^ 63) (profiles_moved (I.to indexes.now) (map profile_view profiles.now)) }
@@ -112,7 +112,7 @@ fn with_profiles<I: NewIndexes>(
 // The sums with one profile more.
 fn with_profile<I: NewIndexes>(
     totals: Totals,
-    found: &Profile,
+    found: &Profile<'_>,
     indexes: &I,
 ) -> Result<Totals, NoMemory>
     requires { AreShorter (2 ^ 63) (profile_value_part (moved (I.to indexes.now) profile (profile_view found.now)) ∷ []) }

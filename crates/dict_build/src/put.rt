@@ -18,7 +18,7 @@ use prof_rec::{Profile, ResourceProfiles, ScopeProfiles};
 /// Out of memory. What was there is still in front.
 pub(crate) fn put_resources<I: NewIndexes>(
     records: &mut Records,
-    added: &[ResourceProfiles],
+    added: &[ResourceProfiles<'_>],
     indexes: &I,
 ) -> Result<(), NoMemory>
     requires { AreShorter (2 ^ 62) (resources_moved (I.to indexes.now) (map resource_profiles_view added.now)) }
@@ -36,7 +36,7 @@ pub(crate) fn put_resources<I: NewIndexes>(
 // Puts a resource record at the end.
 fn put_resource<I: NewIndexes>(
     records: &mut Records,
-    added: &ResourceProfiles,
+    added: &ResourceProfiles<'_>,
     indexes: &I,
 ) -> Result<(), NoMemory>
     requires { AreShorter (2 ^ 62) (resource_value_parts (moved (I.to indexes.now) resource_profiles (resource_profiles_view added.now))) }
@@ -51,7 +51,7 @@ fn put_resource<I: NewIndexes>(
 // Puts scope records at the end.
 fn put_scopes<I: NewIndexes>(
     records: &mut Records,
-    added: &[ScopeProfiles],
+    added: &[ScopeProfiles<'_>],
     indexes: &I,
 ) -> Result<(), NoMemory>
     requires { AreShorter (2 ^ 62) (scopes_moved (I.to indexes.now) (map scope_profiles_view added.now)) }
@@ -69,7 +69,7 @@ fn put_scopes<I: NewIndexes>(
 // Puts a scope record at the end.
 fn put_scope<I: NewIndexes>(
     records: &mut Records,
-    added: &ScopeProfiles,
+    added: &ScopeProfiles<'_>,
     indexes: &I,
 ) -> Result<(), NoMemory>
     requires { AreShorter (2 ^ 62) (scope_value_parts (moved (I.to indexes.now) scope_profiles (scope_profiles_view added.now))) }
@@ -84,7 +84,7 @@ fn put_scope<I: NewIndexes>(
 // Puts profiles at the end.
 fn put_profiles<I: NewIndexes>(
     records: &mut Records,
-    added: &[Profile],
+    added: &[Profile<'_>],
     indexes: &I,
 ) -> Result<(), NoMemory>
     requires { AreShorter (2 ^ 62) (profiles_moved (I.to indexes.now) (map profile_view added.now)) }

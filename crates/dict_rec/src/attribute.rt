@@ -5,22 +5,22 @@ ghost use Rattle.dict_rec.specs.Views.{attribute_view};
 
 use any_value::{Value, put_value, take_value, value_row_len};
 use pb_wire::{
-    Blob, Field, NewIndexes, NoMemory, ReadFault, TableKind, Wire, index_len, put_index,
+    Blob, Field, NewIndexes, NoMemory, ReadFault, Rows, TableKind, Wire, index_len, put_index,
     take_number,
 };
 use std::alloc::Global;
 
 /// An attribute of the dictionary: a key, a value and a unit.
 #[derive(Debug, Drop)]
-pub struct Attr {
+pub struct Attr<'a> {
     /// The key, an index into the string table.
     pub key_strindex: i32,
-    pub value: Value,
+    pub value: Value<'a>,
     /// The unit, an index into the string table.
     pub unit_strindex: i32,
 }
 
-impl Wire for Attr {
+impl<'a> Rows for Attr<'a> {
     ghost shape = { attribute };
 
     ghost view = { attribute_view };
@@ -28,23 +28,6 @@ impl Wire for Attr {
     ghost message = { tt };
 
     ghost lawful = { refl };
-
-    fn none(_alloc: Global) -> Attr {
-        Attr {
-            key_strindex: 0,
-            value: Value::Empty,
-            unit_strindex: 0,
-        }
-    }
-
-    fn take(&mut self, alloc: Global, field: &Field<'_>) -> Result<(), ReadFault> {
-        match field.number {
-            1 => take_number(&mut self.key_strindex, field),
-            2 => take_value(&mut self.value, alloc, field, 1),
-            3 => take_number(&mut self.unit_strindex, field),
-            _ => Ok(()),
-        }
-    }
 
     fn rows_len<I: NewIndexes>(&self, indexes: &I) -> u64 {
         index_len(1, TableKind::String, &self.key_strindex, indexes)
@@ -58,5 +41,24 @@ impl Wire for Attr {
         put_value(out, 2, &self.value)?;
         put_index(out, 3, TableKind::String, &self.unit_strindex, indexes)?;
         Ok(())
+    }
+}
+
+impl<'a> Wire<'a> for Attr<'a> {
+    fn none(_alloc: Global) -> Attr<'a> {
+        Attr {
+            key_strindex: 0,
+            value: Value::Empty,
+            unit_strindex: 0,
+        }
+    }
+
+    fn take(&mut self, alloc: Global, field: &Field<'a>) -> Result<(), ReadFault> {
+        match field.number {
+            1 => take_number(&mut self.key_strindex, field),
+            2 => take_value(&mut self.value, alloc, field, 1),
+            3 => take_number(&mut self.unit_strindex, field),
+            _ => Ok(()),
+        }
     }
 }

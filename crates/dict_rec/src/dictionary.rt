@@ -16,24 +16,24 @@ ghost use Rattle.dict_rec.specs.Views.{dictionary_view};
 
 use crate::{Attr, Function, Link, Location, Mapping, Stack};
 use pb_wire::{
-    Blob, Field, List, NewIndexes, NoMemory, Pieces, ReadFault, Text, Wire, add_message, add_text,
-    messages_len, put_messages, put_text_list, text_list_len,
+    Blob, Field, List, NewIndexes, NoMemory, Pieces, ReadFault, Rows, TextRef, Wire, add_message,
+    add_text, messages_len, put_messages, put_text_list, text_list_len,
 };
 use std::alloc::Global;
 
 /// The seven tables, into which the records and the entries of other tables point.
 #[derive(Debug, Drop)]
-pub struct Dictionary {
+pub struct Dictionary<'a> {
     pub mapping_table: List<Mapping>,
     pub location_table: List<Location>,
     pub function_table: List<Function>,
-    pub link_table: List<Link>,
-    pub string_table: List<Text>,
-    pub attribute_table: List<Attr>,
+    pub link_table: List<Link<'a>>,
+    pub string_table: List<TextRef<'a>>,
+    pub attribute_table: List<Attr<'a>>,
     pub stack_table: List<Stack>,
 }
 
-impl Dictionary {
+impl<'a> Dictionary<'a> {
     /// How many entries each table has, in the order of the fields. It takes no memory.
     pub fn lengths(&self) -> [usize; 7]
         ensures { result ≡ map (λ T. length (entries_in (dictionary_view self.now) T)) every_table }
@@ -50,7 +50,7 @@ impl Dictionary {
     }
 }
 
-impl Wire for Dictionary {
+impl<'a> Rows for Dictionary<'a> {
     ghost shape = { dictionary };
 
     ghost view = { dictionary_view };
@@ -58,31 +58,6 @@ impl Wire for Dictionary {
     ghost message = { tt };
 
     ghost lawful = { refl };
-
-    fn none(alloc: Global) -> Dictionary {
-        Dictionary {
-            mapping_table: List::begin(alloc),
-            location_table: List::begin(alloc),
-            function_table: List::begin(alloc),
-            link_table: List::begin(alloc),
-            string_table: List::begin(alloc),
-            attribute_table: List::begin(alloc),
-            stack_table: List::begin(alloc),
-        }
-    }
-
-    fn take(&mut self, alloc: Global, field: &Field<'_>) -> Result<(), ReadFault> {
-        match field.number {
-            1 => add_message(&mut self.mapping_table, alloc, field),
-            2 => add_message(&mut self.location_table, alloc, field),
-            3 => add_message(&mut self.function_table, alloc, field),
-            4 => add_message(&mut self.link_table, alloc, field),
-            5 => add_text(&mut self.string_table, alloc, field),
-            6 => add_message(&mut self.attribute_table, alloc, field),
-            7 => add_message(&mut self.stack_table, alloc, field),
-            _ => Ok(()),
-        }
-    }
 
     fn rows_len<I: NewIndexes>(&self, indexes: &I) -> u64 {
         table_len(1, &self.mapping_table, indexes)
@@ -107,8 +82,35 @@ impl Wire for Dictionary {
     }
 }
 
+impl<'a> Wire<'a> for Dictionary<'a> {
+    fn none(alloc: Global) -> Dictionary<'a> {
+        Dictionary {
+            mapping_table: List::begin(alloc),
+            location_table: List::begin(alloc),
+            function_table: List::begin(alloc),
+            link_table: List::begin(alloc),
+            string_table: List::begin(alloc),
+            attribute_table: List::begin(alloc),
+            stack_table: List::begin(alloc),
+        }
+    }
+
+    fn take(&mut self, alloc: Global, field: &Field<'a>) -> Result<(), ReadFault> {
+        match field.number {
+            1 => add_message(&mut self.mapping_table, alloc, field),
+            2 => add_message(&mut self.location_table, alloc, field),
+            3 => add_message(&mut self.function_table, alloc, field),
+            4 => add_message(&mut self.link_table, alloc, field),
+            5 => add_text(&mut self.string_table, field),
+            6 => add_message(&mut self.attribute_table, alloc, field),
+            7 => add_message(&mut self.stack_table, alloc, field),
+            _ => Ok(()),
+        }
+    }
+}
+
 // The length of the row of a table, in bytes.
-fn table_len<T: Wire, I: NewIndexes>(number: u32, table: &List<T>, indexes: &I) -> u64
+fn table_len<T: Rows, I: NewIndexes>(number: u32, table: &List<T>, indexes: &I) -> u64
     requires below { number < 2 ^ 29 }
     requires room { length (items_text number (map (spell T.shape) (map (moved (I.to indexes.now) T.shape) (map T.view table.now)))) < 2 ^ 63 }
     ensures { result ≡ length (items_text number (map (spell T.shape) (map (moved (I.to indexes.now) T.shape) (map T.view table.now)))) }
@@ -117,7 +119,7 @@ fn table_len<T: Wire, I: NewIndexes>(number: u32, table: &List<T>, indexes: &I) 
 }
 
 // Puts the row of a table.
-fn put_table<T: Wire, I: NewIndexes>(
+fn put_table<T: Rows, I: NewIndexes>(
     out: &mut Blob,
     number: u32,
     table: &List<T>,
@@ -133,7 +135,10 @@ fn put_table<T: Wire, I: NewIndexes>(
 }
 
 /// The dictionary of the joined pieces, or the first fault in written order.
-pub fn decode_dictionary(alloc: Global, pieces: &Pieces<'_>) -> Result<Dictionary, ReadFault>
+pub fn decode_dictionary<'a>(
+    alloc: Global,
+    pieces: &Pieces<'a>,
+) -> Result<Dictionary<'a>, ReadFault>
     ensures { Reads dictionary_view result (merge_all dictionary (empty dictionary) pieces.now) }
 {
     Dictionary::read(alloc, pieces)
@@ -141,7 +146,7 @@ pub fn decode_dictionary(alloc: Global, pieces: &Pieces<'_>) -> Result<Dictionar
 
 /// Puts the canonical spelling of a dictionary at the end, all of it or nothing. It is read as this dictionary, if no AnyValue
 /// is too deep for a file.
-pub fn encode_dictionary(tables: &Dictionary, out: &mut Blob) -> Result<(), NoMemory>
+pub fn encode_dictionary(tables: &Dictionary<'_>, out: &mut Blob) -> Result<(), NoMemory>
     requires { length (spell dictionary (dictionary_view tables.now)) < 2 ^ 63 }
     ensures ok { OnOk result (out.new ≡ out.old ++ spell dictionary (dictionary_view tables.now)) }
     ensures err { OnErr result (out.new ≡ out.old) }
@@ -151,7 +156,7 @@ pub fn encode_dictionary(tables: &Dictionary, out: &mut Blob) -> Result<(), NoMe
 }
 
 /// The length of the canonical spelling of a dictionary, in bytes. It takes no memory.
-pub fn dictionary_len(tables: &Dictionary) -> u64
+pub fn dictionary_len(tables: &Dictionary<'_>) -> u64
     requires { length (spell dictionary (dictionary_view tables.now)) < 2 ^ 63 }
     ensures { result ≡ length (spell dictionary (dictionary_view tables.now)) }
 {

@@ -4,7 +4,7 @@ ghost use Rattle.schema.specs.Messages.{function};
 ghost use Rattle.dict_rec.specs.Views.{function_view};
 
 use pb_wire::{
-    Blob, Field, NewIndexes, NoMemory, ReadFault, TableKind, Wire, index_len, number_len,
+    Blob, Field, NewIndexes, NoMemory, ReadFault, Rows, TableKind, Wire, index_len, number_len,
     put_index, put_number, take_number,
 };
 use std::alloc::Global;
@@ -22,7 +22,7 @@ pub struct Function {
     pub start_line: i64,
 }
 
-impl Wire for Function {
+impl Rows for Function {
     ghost shape = { function };
 
     ghost view = { function_view };
@@ -30,25 +30,6 @@ impl Wire for Function {
     ghost message = { tt };
 
     ghost lawful = { refl };
-
-    fn none(_alloc: Global) -> Function {
-        Function {
-            name_strindex: 0,
-            system_name_strindex: 0,
-            filename_strindex: 0,
-            start_line: 0,
-        }
-    }
-
-    fn take(&mut self, _alloc: Global, field: &Field<'_>) -> Result<(), ReadFault> {
-        match field.number {
-            1 => take_number(&mut self.name_strindex, field),
-            2 => take_number(&mut self.system_name_strindex, field),
-            3 => take_number(&mut self.filename_strindex, field),
-            4 => take_number(&mut self.start_line, field),
-            _ => Ok(()),
-        }
-    }
 
     fn rows_len<I: NewIndexes>(&self, indexes: &I) -> u64 {
         index_len(1, TableKind::String, &self.name_strindex, indexes)
@@ -70,5 +51,26 @@ impl Wire for Function {
         put_index(out, 3, TableKind::String, &self.filename_strindex, indexes)?;
         put_number(out, 4, self.start_line)?;
         Ok(())
+    }
+}
+
+impl<'a> Wire<'a> for Function {
+    fn none(_alloc: Global) -> Function {
+        Function {
+            name_strindex: 0,
+            system_name_strindex: 0,
+            filename_strindex: 0,
+            start_line: 0,
+        }
+    }
+
+    fn take(&mut self, _alloc: Global, field: &Field<'a>) -> Result<(), ReadFault> {
+        match field.number {
+            1 => take_number(&mut self.name_strindex, field),
+            2 => take_number(&mut self.system_name_strindex, field),
+            3 => take_number(&mut self.filename_strindex, field),
+            4 => take_number(&mut self.start_line, field),
+            _ => Ok(()),
+        }
     }
 }

@@ -4,7 +4,7 @@ ghost use Rattle.schema.specs.Messages.{line};
 ghost use Rattle.dict_rec.specs.Views.{line_view};
 
 use pb_wire::{
-    Blob, Field, NewIndexes, NoMemory, ReadFault, TableKind, Wire, index_len, number_len,
+    Blob, Field, NewIndexes, NoMemory, ReadFault, Rows, TableKind, Wire, index_len, number_len,
     put_index, put_number, take_number,
 };
 use std::alloc::Global;
@@ -20,7 +20,7 @@ pub struct Line {
     pub column: i64,
 }
 
-impl Wire for Line {
+impl Rows for Line {
     ghost shape = { line };
 
     ghost view = { line_view };
@@ -28,23 +28,6 @@ impl Wire for Line {
     ghost message = { tt };
 
     ghost lawful = { refl };
-
-    fn none(_alloc: Global) -> Line {
-        Line {
-            function_index: 0,
-            line: 0,
-            column: 0,
-        }
-    }
-
-    fn take(&mut self, _alloc: Global, field: &Field<'_>) -> Result<(), ReadFault> {
-        match field.number {
-            1 => take_number(&mut self.function_index, field),
-            2 => take_number(&mut self.line, field),
-            3 => take_number(&mut self.column, field),
-            _ => Ok(()),
-        }
-    }
 
     fn rows_len<I: NewIndexes>(&self, indexes: &I) -> u64 {
         index_len(1, TableKind::Function, &self.function_index, indexes)
@@ -58,5 +41,24 @@ impl Wire for Line {
         put_number(out, 2, self.line)?;
         put_number(out, 3, self.column)?;
         Ok(())
+    }
+}
+
+impl<'a> Wire<'a> for Line {
+    fn none(_alloc: Global) -> Line {
+        Line {
+            function_index: 0,
+            line: 0,
+            column: 0,
+        }
+    }
+
+    fn take(&mut self, _alloc: Global, field: &Field<'a>) -> Result<(), ReadFault> {
+        match field.number {
+            1 => take_number(&mut self.function_index, field),
+            2 => take_number(&mut self.line, field),
+            3 => take_number(&mut self.column, field),
+            _ => Ok(()),
+        }
     }
 }

@@ -5,9 +5,9 @@ ghost use Rattle.dict_rec.specs.Views.{location_view};
 
 use crate::Line;
 use pb_wire::{
-    Blob, Field, List, NewIndexes, NoMemory, ReadFault, TableKind, Wire, add_message, add_number,
-    index_len, indexes_len, messages_len, number_len, put_index, put_indexes, put_messages,
-    put_number, take_number,
+    Blob, Field, List, NewIndexes, NoMemory, ReadFault, Rows, TableKind, Wire, add_message,
+    add_number, index_len, indexes_len, messages_len, number_len, put_index, put_indexes,
+    put_messages, put_number, take_number,
 };
 use std::alloc::Global;
 
@@ -23,7 +23,7 @@ pub struct Location {
     pub attribute_indices: List<i32>,
 }
 
-impl Wire for Location {
+impl Rows for Location {
     ghost shape = { location };
 
     ghost view = { location_view };
@@ -31,25 +31,6 @@ impl Wire for Location {
     ghost message = { tt };
 
     ghost lawful = { refl };
-
-    fn none(alloc: Global) -> Location {
-        Location {
-            mapping_index: 0,
-            address: 0,
-            lines: List::begin(alloc),
-            attribute_indices: List::begin(alloc),
-        }
-    }
-
-    fn take(&mut self, alloc: Global, field: &Field<'_>) -> Result<(), ReadFault> {
-        match field.number {
-            1 => take_number(&mut self.mapping_index, field),
-            2 => take_number(&mut self.address, field),
-            3 => add_message(&mut self.lines, alloc, field),
-            4 => add_number(&mut self.attribute_indices, field),
-            _ => Ok(()),
-        }
-    }
 
     fn rows_len<I: NewIndexes>(&self, indexes: &I) -> u64 {
         index_len(1, TableKind::Mapping, &self.mapping_index, indexes)
@@ -76,5 +57,26 @@ impl Wire for Location {
             indexes,
         )?;
         Ok(())
+    }
+}
+
+impl<'a> Wire<'a> for Location {
+    fn none(alloc: Global) -> Location {
+        Location {
+            mapping_index: 0,
+            address: 0,
+            lines: List::begin(alloc),
+            attribute_indices: List::begin(alloc),
+        }
+    }
+
+    fn take(&mut self, alloc: Global, field: &Field<'a>) -> Result<(), ReadFault> {
+        match field.number {
+            1 => take_number(&mut self.mapping_index, field),
+            2 => take_number(&mut self.address, field),
+            3 => add_message(&mut self.lines, alloc, field),
+            4 => add_number(&mut self.attribute_indices, field),
+            _ => Ok(()),
+        }
     }
 }

@@ -4,8 +4,8 @@ ghost use Rattle.schema.specs.Messages.{mapping};
 ghost use Rattle.dict_rec.specs.Views.{mapping_view};
 
 use pb_wire::{
-    Blob, Field, List, NewIndexes, NoMemory, ReadFault, TableKind, Wire, add_number, index_len,
-    indexes_len, number_len, put_index, put_indexes, put_number, take_number,
+    Blob, Field, List, NewIndexes, NoMemory, ReadFault, Rows, TableKind, Wire, add_number,
+    index_len, indexes_len, number_len, put_index, put_indexes, put_number, take_number,
 };
 use std::alloc::Global;
 
@@ -24,7 +24,7 @@ pub struct Mapping {
     pub attribute_indices: List<i32>,
 }
 
-impl Wire for Mapping {
+impl Rows for Mapping {
     ghost shape = { mapping };
 
     ghost view = { mapping_view };
@@ -32,27 +32,6 @@ impl Wire for Mapping {
     ghost message = { tt };
 
     ghost lawful = { refl };
-
-    fn none(alloc: Global) -> Mapping {
-        Mapping {
-            memory_start: 0,
-            memory_limit: 0,
-            file_offset: 0,
-            filename_strindex: 0,
-            attribute_indices: List::begin(alloc),
-        }
-    }
-
-    fn take(&mut self, _alloc: Global, field: &Field<'_>) -> Result<(), ReadFault> {
-        match field.number {
-            1 => take_number(&mut self.memory_start, field),
-            2 => take_number(&mut self.memory_limit, field),
-            3 => take_number(&mut self.file_offset, field),
-            4 => take_number(&mut self.filename_strindex, field),
-            5 => add_number(&mut self.attribute_indices, field),
-            _ => Ok(()),
-        }
-    }
 
     fn rows_len<I: NewIndexes>(&self, indexes: &I) -> u64 {
         number_len(1, self.memory_start)
@@ -81,5 +60,28 @@ impl Wire for Mapping {
             indexes,
         )?;
         Ok(())
+    }
+}
+
+impl<'a> Wire<'a> for Mapping {
+    fn none(alloc: Global) -> Mapping {
+        Mapping {
+            memory_start: 0,
+            memory_limit: 0,
+            file_offset: 0,
+            filename_strindex: 0,
+            attribute_indices: List::begin(alloc),
+        }
+    }
+
+    fn take(&mut self, _alloc: Global, field: &Field<'a>) -> Result<(), ReadFault> {
+        match field.number {
+            1 => take_number(&mut self.memory_start, field),
+            2 => take_number(&mut self.memory_limit, field),
+            3 => take_number(&mut self.file_offset, field),
+            4 => take_number(&mut self.filename_strindex, field),
+            5 => add_number(&mut self.attribute_indices, field),
+            _ => Ok(()),
+        }
     }
 }

@@ -4,8 +4,8 @@ ghost use Rattle.schema.specs.Messages.{stack};
 ghost use Rattle.dict_rec.specs.Views.{stack_view};
 
 use pb_wire::{
-    Blob, Field, List, NewIndexes, NoMemory, ReadFault, TableKind, Wire, add_number, indexes_len,
-    put_indexes,
+    Blob, Field, List, NewIndexes, NoMemory, ReadFault, Rows, TableKind, Wire, add_number,
+    indexes_len, put_indexes,
 };
 use std::alloc::Global;
 
@@ -16,7 +16,7 @@ pub struct Stack {
     pub location_indices: List<i32>,
 }
 
-impl Wire for Stack {
+impl Rows for Stack {
     ghost shape = { stack };
 
     ghost view = { stack_view };
@@ -24,19 +24,6 @@ impl Wire for Stack {
     ghost message = { tt };
 
     ghost lawful = { refl };
-
-    fn none(alloc: Global) -> Stack {
-        Stack {
-            location_indices: List::begin(alloc),
-        }
-    }
-
-    fn take(&mut self, _alloc: Global, field: &Field<'_>) -> Result<(), ReadFault> {
-        match field.number {
-            1 => add_number(&mut self.location_indices, field),
-            _ => Ok(()),
-        }
-    }
 
     fn rows_len<I: NewIndexes>(&self, indexes: &I) -> u64 {
         indexes_len(
@@ -56,5 +43,20 @@ impl Wire for Stack {
             indexes,
         )?;
         Ok(())
+    }
+}
+
+impl<'a> Wire<'a> for Stack {
+    fn none(alloc: Global) -> Stack {
+        Stack {
+            location_indices: List::begin(alloc),
+        }
+    }
+
+    fn take(&mut self, _alloc: Global, field: &Field<'a>) -> Result<(), ReadFault> {
+        match field.number {
+            1 => add_number(&mut self.location_indices, field),
+            _ => Ok(()),
+        }
     }
 }

@@ -13,7 +13,7 @@ use crate::mark::RecordsMark;
 use crate::put::{put_head, put_profile};
 use crate::totals::Totals;
 use part_text::{Ending, Extent, into_whole_text};
-use pb_wire::{Blob, NewIndexes, NoMemory, Text, Wire};
+use pb_wire::{Blob, NewIndexes, NoMemory, Rows, TextRef};
 use std::alloc::Global;
 
 /// The extents, their texts one after the other, the texts that close records one after the other, and the sums.
@@ -105,10 +105,10 @@ fn add_extent(kept: &mut Kept, extent: Extent) -> Result<(), NoMemory>
 }
 
 /// A resource record begins.
-pub(crate) fn begin_resource<T: Wire, I: NewIndexes>(
+pub(crate) fn begin_resource<T: Rows, I: NewIndexes>(
     kept: &mut Kept,
     head: &T,
-    schema_url: &Text,
+    schema_url: &TextRef<'_>,
     indexes: &I,
 ) -> Result<(), NoMemory>
     requires kept { IsKept kept.old }
@@ -122,10 +122,10 @@ pub(crate) fn begin_resource<T: Wire, I: NewIndexes>(
 }
 
 /// A scope record begins.
-pub(crate) fn begin_scope<T: Wire, I: NewIndexes>(
+pub(crate) fn begin_scope<T: Rows, I: NewIndexes>(
     kept: &mut Kept,
     head: &T,
-    schema_url: &Text,
+    schema_url: &TextRef<'_>,
     indexes: &I,
 ) -> Result<(), NoMemory>
     requires kept { IsKept kept.old }
@@ -139,7 +139,7 @@ pub(crate) fn begin_scope<T: Wire, I: NewIndexes>(
 }
 
 /// A profile is put at the end.
-pub(crate) fn add_profile<T: Wire, I: NewIndexes>(
+pub(crate) fn add_profile<T: Rows, I: NewIndexes>(
     kept: &mut Kept,
     profile: &T,
     indexes: &I,

@@ -6,7 +6,7 @@ ghost use Rattle.schema.specs.Texts.{bytes_field};
 ghost use Rattle.schema.specs.Prefix.{IsPrefix};
 ghost use Rattle.draft_records.specs.Writes.{IsPut};
 
-use pb_wire::{Blob, NewIndexes, NoMemory, Text, Wire, put_message, put_text};
+use pb_wire::{Blob, NewIndexes, NoMemory, Rows, TextRef, put_message, put_text};
 
 // The number of bytes after the first ones. Where it has more than 32 bits, they are dropped.
 fn counted(run: &mut Blob, begin: usize) -> Result<u32, NoMemory>
@@ -25,7 +25,7 @@ fn counted(run: &mut Blob, begin: usize) -> Result<u32, NoMemory>
 
 // Puts the row of a head at the end, all of it or nothing, and answers its length.
 #[tactic(auto, using(schema_laws::proofs::Lengths::bytes_field_len))]
-fn put_front<T: Wire, I: NewIndexes>(
+fn put_front<T: Rows, I: NewIndexes>(
     texts: &mut Blob,
     head: &T,
     indexes: &I,
@@ -44,7 +44,7 @@ fn put_front<T: Wire, I: NewIndexes>(
 }
 
 // Puts the row of a schema URL at the end, all of it or nothing, and answers its length.
-fn put_back(backs: &mut Blob, schema_url: &Text) -> Result<u32, NoMemory>
+fn put_back(backs: &mut Blob, schema_url: &TextRef<'_>) -> Result<u32, NoMemory>
     ensures ok { IfOk result (IsPut backs.old (bytes_field 3 schema_url.now) backs.new) }
     ensures err { OnErr result (backs.new ≡ backs.old) }
 {
@@ -59,11 +59,11 @@ fn put_back(backs: &mut Blob, schema_url: &Text) -> Result<u32, NoMemory>
 
 /// Puts a head at the ends, all of it or nothing, and answers the lengths of what is put in front of what the record holds and
 /// after it.
-pub(crate) fn put_head<T: Wire, I: NewIndexes>(
+pub(crate) fn put_head<T: Rows, I: NewIndexes>(
     texts: &mut Blob,
     backs: &mut Blob,
     head: &T,
-    schema_url: &Text,
+    schema_url: &TextRef<'_>,
     indexes: &I,
 ) -> Result<(u32, u32), NoMemory>
     requires { length (spell T.shape (moved (I.to indexes.now) T.shape (T.view head.now))) < 2 ^ 62 }
@@ -85,7 +85,7 @@ pub(crate) fn put_head<T: Wire, I: NewIndexes>(
 
 // Puts the rows of a profile at the end. After an error the bytes so far are still in front.
 #[tactic(auto, using(schema_laws::proofs::Onto::onto, schema_laws::proofs::Onto::onto_len))]
-fn put_rows<T: Wire, I: NewIndexes>(
+fn put_rows<T: Rows, I: NewIndexes>(
     texts: &mut Blob,
     profile: &T,
     indexes: &I,
@@ -99,7 +99,7 @@ fn put_rows<T: Wire, I: NewIndexes>(
 }
 
 /// Puts a profile at the end, all of it or nothing, and answers its length.
-pub(crate) fn put_profile<T: Wire, I: NewIndexes>(
+pub(crate) fn put_profile<T: Rows, I: NewIndexes>(
     texts: &mut Blob,
     profile: &T,
     indexes: &I,

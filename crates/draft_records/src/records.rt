@@ -14,7 +14,7 @@ use crate::kept::{
 use crate::mark::RecordsMark;
 use crate::totals::Totals;
 use part_text::Ending;
-use pb_wire::{Blob, NewIndexes, NoMemory, Text, Wire};
+use pb_wire::{Blob, NewIndexes, NoMemory, Rows, TextRef};
 use std::alloc::Global;
 use std::marker::Model;
 
@@ -50,10 +50,10 @@ impl Records {
     /// # Errors
     ///
     /// Out of memory. The records are as before.
-    pub fn begin_resource<T: Wire, I: NewIndexes>(
+    pub fn begin_resource<T: Rows, I: NewIndexes>(
         &mut self,
         head: &T,
-        schema_url: &Text,
+        schema_url: &TextRef<'_>,
         indexes: &I,
     ) -> Result<(), NoMemory>
         requires room { length (spell T.shape (moved (I.to indexes.now) T.shape (T.view head.now))) < 2 ^ 62 }
@@ -69,10 +69,10 @@ impl Records {
     /// # Errors
     ///
     /// Out of memory. The records are as before.
-    pub fn begin_scope<T: Wire, I: NewIndexes>(
+    pub fn begin_scope<T: Rows, I: NewIndexes>(
         &mut self,
         head: &T,
-        schema_url: &Text,
+        schema_url: &TextRef<'_>,
         indexes: &I,
     ) -> Result<(), NoMemory>
         requires room { length (spell T.shape (moved (I.to indexes.now) T.shape (T.view head.now))) < 2 ^ 62 }
@@ -88,7 +88,7 @@ impl Records {
     /// # Errors
     ///
     /// Out of memory. The records are as before.
-    pub fn add_profile<T: Wire, I: NewIndexes>(
+    pub fn add_profile<T: Rows, I: NewIndexes>(
         &mut self,
         profile: &T,
         indexes: &I,

@@ -1,5 +1,5 @@
 -- The lists of tables by their places, and one that changes.
-use Rattle.std.proofs.Common.{◌≡◌, ℕ, zero, suc, ◌+◌, ◌<◌, ◌≤◌, ◌^◌, List, [], ◌∷◌, ◌++◌, length, take, get_or, false, inl, inr, refl, sym, ap, ◌∙◌, subst, true≢false, ◌≢◌, arith}
+use Rattle.std.proofs.Common.{◌≡◌, ℕ, zero, suc, ◌+◌, ◌<◌, ◌≤◌, ◌^◌, List, [], ◌∷◌, ◌++◌, length, get_or, false, inl, inr, refl, sym, ap, ◌∙◌, subst, true≢false, ◌≢◌, arith}
 use Rattle.std.specs.Prelude.{slice_set, slice_get, Some, Result, Ok, Err, IfOk, OnErr}
 use Rattle.std.proofs.lemmas.Bool.{eq-eqb}
 use Rattle.std.proofs.lemmas.Option.{get_or_from_slice_get, slice_get_read}

@@ -4,13 +4,15 @@ ghost use Rattle.schema.specs.Texts.{items_text, long_field};
 ghost use Rattle.schema.specs.Tables.{field_of};
 ghost use Rattle.pb_wire.specs.TableKinds.{place_of, table_of};
 ghost use Rattle.schema.specs.Prefix.{IsPrefix};
+ghost use Rattle.tables.specs.KeyBytes.{bytes_of};
 ghost use Rattle.key_tables.specs.Keys.{InternedIn, cut_to, lengths, text_from};
 
 use crate::ByTable;
 use pb_wire::{Blob, NoMemory, Payload, TableKind, long_len, put_field};
+use std::alloc::Global;
 use std::hash::BuildHasher;
 use std::sync::ledger::Ledger;
-use tables::{EntryKey, Interner, Mark, Steps, Table};
+use tables::{EntryKey, Interner, KeyBytes, Mark, Steps, Table};
 
 // The greatest number of entries of a table, whose indexes have 31 bits.
 const MOST_ENTRIES: u32 = 0x7FFF_FFFF;
@@ -18,23 +20,24 @@ const MOST_ENTRIES: u32 = 0x7FFF_FFFF;
 /// The tables of a new dictionary.
 pub(crate) type Tables<S> = ByTable<Table<EntryKey, S>>;
 
-/// The length of an entry with its tag and length, in bytes.
-pub(crate) fn entry_len(kind: TableKind, key: &EntryKey) -> u64
+/// The length of an entry of these bytes with its tag and length, in bytes.
+pub(crate) fn entry_len(kind: TableKind, key: &[u8]) -> u64
     ensures is { result ≡ length (long_field (field_of (table_of kind)) key.now) }
     ensures most { result ≤ 2 ^ 63 + 20 }
 {
-    long_len(kind.number(), key.as_slice().len() as u64)
+    long_len(kind.number(), key.len() as u64)
 }
 
 /// The place of a key in its table, where it goes to the end if it is new. A full table answers `NoMemory`.
 pub(crate) fn intern_in<S: BuildHasher + Drop, L: Ledger>(
+    alloc: Global,
     tables: &mut Tables<S>,
     kind: TableKind,
-    key: EntryKey,
+    key: KeyBytes<'_>,
     steps: &mut Steps<L>,
 ) -> Result<u32, NoMemory>
     requires { length tables.old ≡ 7 }
-    ensures interned { IfOk result (InternedIn (place_of (table_of kind)) tables.old key tables.new) }
+    ensures interned { IfOk result (InternedIn (place_of (table_of kind)) tables.old (bytes_of key.entry) tables.new) }
     ensures same { OnErr result (tables.new ≡ tables.old) }
     ensures steps { steps.new ≤ steps.old + 1 }
 {
@@ -42,7 +45,10 @@ pub(crate) fn intern_in<S: BuildHasher + Drop, L: Ledger>(
     if table.len() >= MOST_ENTRIES {
         return Err(NoMemory);
     }
-    table.intern(key, steps)
+    match key {
+        KeyBytes::Owned(bytes) => table.intern(EntryKey::from_blob(bytes), steps),
+        KeyBytes::Borrowed(bytes) => table.intern_copy(alloc, bytes, steps),
+    }
 }
 
 /// The numbers of keys.

@@ -110,7 +110,7 @@ written_row {n} {k} {rest} {v} {w} {u} {m} {ms} {x} {xs} r s = record {
 -- ---- lists
 
 -- a walk of the tree of a list
-walk-listed : (w : Tree → List Tree) (ts : List Tree) → walk_each w (listed ts) ≡ flat_map w ts
+pub walk-listed : (w : Tree → List Tree) (ts : List Tree) → walk_each w (listed ts) ≡ flat_map w ts
 walk-listed w [] = refl
 walk-listed w (t ∷ ts) = ap (λ l. w t ++ l) (walk-listed w ts)
 
@@ -120,7 +120,7 @@ each-listed f [] = refl
 each-listed f (t ∷ ts) = ap (Cons (f t)) (each-listed f ts)
 
 -- what was written of a list stays written
-kept-each : (s : Shape) (v w : Tables) → Grown v w → (ms : List Tree)
+pub kept-each : (s : Shape) (v w : Tables) → Grown v w → (ms : List Tree)
     → ((T : Table) → Each (λ x. has (v T) x ≡ true) (flat_map (uses T s) ms)) → map (renumber w s) ms ≡ map (renumber v s) ms
 kept-each s v w g [] h = refl
 kept-each s v w g (m ∷ ms) h =

@@ -25,7 +25,7 @@ becomes_rows d {n} {k} {rest} {v} {w} {u} x y r s =
     subst (λ t. Written (Many n k rest) v u (Cons t (resolve d rest (tree rest x.1))) (tree (Many n k rest) y)) (sym e) (written_rows r s)
 
 -- resolving changes nothing where there is no index
-resolve-plain : (d : Tables) (s : Shape) → is_plain s ≡ true → (t : Tree) → resolve d s t ≡ t
+pub resolve-plain : (d : Tables) (s : Shape) → is_plain s ≡ true → (t : Tree) → resolve d s t ≡ t
 resolve-plain d (One n k rest) h t =
     let p = and_parts (is_plain k) (is_plain rest) h in
     plain_parts (resolve d k) (resolve d rest) (resolve-plain d k p.0) (resolve-plain d rest p.1) t

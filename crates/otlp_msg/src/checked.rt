@@ -13,7 +13,7 @@ use crate::counts::{profiles_in_resources, samples_in_resources};
 #[derive(Debug, Drop)]
 pub struct Checked<'a> {
     pub(crate) body: &'a [u8],
-    pub(crate) message: Message,
+    pub(crate) message: Message<'a>,
     ghost octets: { All (λ b. b < 256) body.now },
     pub ghost read: { message_of body.now ≡ Ok (message_view message) } by { Prim.hlevel (props, codes, any_code) },
 }
@@ -35,7 +35,7 @@ impl<'a> Checked<'a> {
     ghost use Rattle.meaning.specs.Tree.{tree};
 
     /// The bytes that the message was read from. It takes no memory.
-    pub fn body(&self) -> &[u8]
+    pub fn body(&self) -> &'a [u8]
         ensures { result.now ≡ body_of self.now }
     {
         self.body
@@ -43,7 +43,7 @@ impl<'a> Checked<'a> {
 
     /// The message. It takes no memory. Its spelling is short enough to be written, and it fits, so its spelling is read as
     /// it. Each table begins with its zero entry, and each index, of an entry or of a record, is in its table.
-    pub fn message(&self) -> &Message
+    pub fn message(&self) -> &Message<'a>
         ensures value { message_view result.now ≡ value_of self.now }
         ensures short { length (spell envelope (value_of self.now)) < 2 ^ 60 }
         ensures fits { Fits envelope (value_of self.now) }

@@ -5,7 +5,7 @@ ghost use Rattle.otlp_msg.specs.Counts.{scopes_count, resources_count, profiles_
 use prof_rec::{Profile, ResourceProfiles, ScopeProfiles};
 
 /// The number of profiles of some resources.
-pub fn profiles_in_resources(records: &[ResourceProfiles]) -> u64
+pub fn profiles_in_resources(records: &[ResourceProfiles<'_>]) -> u64
     requires { resources_count records.now < 2 ^ 62 }
     ensures { result ≡ resources_count records.now }
 {
@@ -17,7 +17,7 @@ pub fn profiles_in_resources(records: &[ResourceProfiles]) -> u64
 }
 
 // The number of profiles of some scopes.
-fn profiles_in_scopes(scopes: &[ScopeProfiles]) -> u64
+fn profiles_in_scopes(scopes: &[ScopeProfiles<'_>]) -> u64
     requires { scopes_count scopes.now < 2 ^ 62 }
     ensures { result ≡ scopes_count scopes.now }
 {
@@ -29,7 +29,7 @@ fn profiles_in_scopes(scopes: &[ScopeProfiles]) -> u64
 }
 
 /// The number of samples of some resources.
-pub fn samples_in_resources(records: &[ResourceProfiles]) -> u64
+pub fn samples_in_resources(records: &[ResourceProfiles<'_>]) -> u64
     requires { resources_samples records.now < 2 ^ 62 }
     ensures { result ≡ resources_samples records.now }
 {
@@ -41,7 +41,7 @@ pub fn samples_in_resources(records: &[ResourceProfiles]) -> u64
 }
 
 // The number of samples of some scopes.
-fn samples_in_scopes(scopes: &[ScopeProfiles]) -> u64
+fn samples_in_scopes(scopes: &[ScopeProfiles<'_>]) -> u64
     requires { scopes_samples scopes.now < 2 ^ 62 }
     ensures { result ≡ scopes_samples scopes.now }
 {
@@ -53,7 +53,7 @@ fn samples_in_scopes(scopes: &[ScopeProfiles]) -> u64
 }
 
 // The number of samples of some profiles.
-fn samples_in_profiles(profiles: &[Profile]) -> u64
+fn samples_in_profiles(profiles: &[Profile<'_>]) -> u64
     requires { profiles_samples profiles.now < 2 ^ 62 }
     ensures { result ≡ profiles_samples profiles.now }
 {

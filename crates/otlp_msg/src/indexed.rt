@@ -10,10 +10,10 @@ ghost use Rattle.otlp_msg.specs.Within.{each_within, value_within, HasPlaces};
 use crate::table_lengths::TableLengths;
 use crate::{Holder, Refusal};
 use dict_rec::TableKind;
-use pb_wire::{List, Wire};
+use pb_wire::{List, Rows};
 
 /// A record that may hold indexes. An implementation gives one line for each row that holds some.
-pub(crate) trait Indexed: Wire {
+pub(crate) trait Indexed: Rows {
     /// Tests each index of the record, and answers the refusal of the first that is in no table. It takes no memory.
     fn indexes_within(&self, lengths: &TableLengths, holder: Holder) -> Result<(), Refusal>
         requires { HasPlaces Self.shape (Self.view self.now) }

@@ -37,7 +37,7 @@ impl Indexed for Function {
     }
 }
 
-impl Indexed for Attr {
+impl<'a> Indexed for Attr<'a> {
     fn indexes_within(&self, lengths: &TableLengths, holder: Holder) -> Result<(), Refusal> {
         lengths.test(TableKind::String, self.key_strindex, holder, 1, 0)?;
         lengths.test(TableKind::String, self.unit_strindex, holder, 3, 0)?;

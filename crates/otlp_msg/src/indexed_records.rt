@@ -22,7 +22,7 @@ impl Indexed for ValueType {
     }
 }
 
-impl Indexed for Profile {
+impl<'a> Indexed for Profile<'a> {
     fn indexes_within(&self, lengths: &TableLengths, holder: Holder) -> Result<(), Refusal> {
         self.sample_type
             .indexes_within(lengths, holder.entered(1, 0))?;
@@ -36,7 +36,7 @@ impl Indexed for Profile {
 
 impl TableLengths {
     /// Tests the indexes of the tables, in the order of the dictionary's fields. Links and strings have none.
-    fn test_tables(&self, tables: &Dictionary) -> Result<(), Refusal>
+    fn test_tables(&self, tables: &Dictionary<'_>) -> Result<(), Refusal>
         requires { HasPlaces dictionary (dictionary_view tables.now) }
         ensures { result ≡ within (lengths_view self.now) (dictionary_spots (dictionary_view tables.now)) }
     {
@@ -49,7 +49,12 @@ impl TableLengths {
     }
 
     // The indexes of the profiles of one scope record.
-    fn test_scope(&self, group: &ScopeProfiles, resource: u32, scope: u32) -> Result<(), Refusal>
+    fn test_scope(
+        &self,
+        group: &ScopeProfiles<'_>,
+        resource: u32,
+        scope: u32,
+    ) -> Result<(), Refusal>
         requires { HasPlaces scope_profiles (scope_profiles_view group.now) }
         ensures { result ≡ within (lengths_view self.now) (scope_spots resource scope (scope_profiles_view group.now)) }
     {
@@ -67,7 +72,7 @@ impl TableLengths {
     }
 
     // The indexes of the profiles of one resource record.
-    fn test_resource(&self, group: &ResourceProfiles, resource: u32) -> Result<(), Refusal>
+    fn test_resource(&self, group: &ResourceProfiles<'_>, resource: u32) -> Result<(), Refusal>
         requires { HasPlaces resource_profiles (resource_profiles_view group.now) }
         ensures { result ≡ within (lengths_view self.now) (resource_spots resource (resource_profiles_view group.now)) }
     {
@@ -81,7 +86,7 @@ impl TableLengths {
 }
 
 /// Tests each index of a message, and answers the refusal of the walk's first that is in no table. It takes no memory.
-pub(crate) fn indexes_within(message: &Message) -> Result<(), Refusal>
+pub(crate) fn indexes_within(message: &Message<'_>) -> Result<(), Refusal>
     requires { HasPlaces envelope (message_view message.now) }
     ensures { result ≡ within (lengths_in (dictionary_view message.now.dictionary)) (message_spots (message_view message.now)) }
 {

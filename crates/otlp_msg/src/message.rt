@@ -5,7 +5,7 @@ ghost use Rattle.otlp_msg.specs.Views.{message_view};
 
 use dict_rec::Dictionary;
 use pb_wire::{
-    Blob, Field, List, NewIndexes, NoMemory, ReadFault, Wire, add_message, message_len,
+    Blob, Field, List, NewIndexes, NoMemory, ReadFault, Rows, Wire, add_message, message_len,
     messages_len, put_message, put_messages, take_message,
 };
 use prof_rec::{ResourceList, ResourceProfiles};
@@ -13,12 +13,12 @@ use std::alloc::Global;
 
 /// A message: its resource records, and the dictionary that they share.
 #[derive(Debug, Drop)]
-pub struct Message {
-    pub records: ResourceList,
-    pub dictionary: Dictionary,
+pub struct Message<'a> {
+    pub records: ResourceList<'a>,
+    pub dictionary: Dictionary<'a>,
 }
 
-impl Wire for Message {
+impl<'a> Rows for Message<'a> {
     ghost shape = { envelope };
 
     ghost view = { message_view };
@@ -26,21 +26,6 @@ impl Wire for Message {
     ghost message = { tt };
 
     ghost lawful = { refl };
-
-    fn none(alloc: Global) -> Message {
-        Message {
-            records: List::begin(alloc),
-            dictionary: Dictionary::none(alloc),
-        }
-    }
-
-    fn take(&mut self, alloc: Global, field: &Field<'_>) -> Result<(), ReadFault> {
-        match field.number {
-            1 => add_message::<ResourceProfiles>(&mut self.records, alloc, field),
-            2 => take_message(&mut self.dictionary, alloc, field),
-            _ => Ok(()),
-        }
-    }
 
     fn rows_len<I: NewIndexes>(&self, indexes: &I) -> u64 {
         messages_len::<ResourceProfiles, I>(1, self.records.as_slice(), indexes)
@@ -51,5 +36,22 @@ impl Wire for Message {
         put_messages::<ResourceProfiles, I>(out, 1, self.records.as_slice(), indexes)?;
         put_message(out, 2, &self.dictionary, indexes)?;
         Ok(())
+    }
+}
+
+impl<'a> Wire<'a> for Message<'a> {
+    fn none(alloc: Global) -> Message<'a> {
+        Message {
+            records: List::begin(alloc),
+            dictionary: Dictionary::none(alloc),
+        }
+    }
+
+    fn take(&mut self, alloc: Global, field: &Field<'a>) -> Result<(), ReadFault> {
+        match field.number {
+            1 => add_message::<ResourceProfiles>(&mut self.records, alloc, field),
+            2 => take_message(&mut self.dictionary, alloc, field),
+            _ => Ok(()),
+        }
     }
 }

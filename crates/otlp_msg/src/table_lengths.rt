@@ -15,7 +15,7 @@ pub(crate) struct TableLengths {
 }
 
 impl TableLengths {
-    pub fn of_dictionary(dictionary: &Dictionary) -> TableLengths
+    pub fn of_dictionary(dictionary: &Dictionary<'_>) -> TableLengths
         ensures { (table : Kind) → lengths_view result table ≡ lengths_in (dictionary_view dictionary.now) table }
     {
         TableLengths {

@@ -10,10 +10,10 @@ ghost use Rattle.otlp_msg.specs.Within.{HasPlaces};
 ghost use Rattle.otlp_msg.specs.ZeroEntries.{all_tables, begins_with_zero as begins_with_zero_of, first_other};
 
 use dict_rec::{Dictionary, TableKind};
-use pb_wire::{List, Text, Wire};
+use pb_wire::{AsTheyStand, List, Rows, TextRef};
 
 /// The first table, in the order of the dictionary's fields, whose first entry isn't the zero value. It takes no memory.
-pub(crate) fn first_other_zero(tables: &Dictionary) -> Option<TableKind>
+pub(crate) fn first_other_zero(tables: &Dictionary<'_>) -> Option<TableKind>
     requires fits { Fits dictionary (dictionary_view tables.now) }
     requires short { HasPlaces dictionary (dictionary_view tables.now) }
     ensures { result ≡ first_other (dictionary_view tables.now) all_tables }
@@ -43,18 +43,18 @@ pub(crate) fn first_other_zero(tables: &Dictionary) -> Option<TableKind>
 }
 
 // Whether the first entry, if there is one, is the zero value, whose spelling alone is empty.
-fn begins_with_zero<T: Wire>(entries: &List<T>) -> bool
+fn begins_with_zero<T: Rows>(entries: &List<T>) -> bool
     requires { Each (λ x. Fits T.shape x × (length (spell T.shape x) < 2 ^ 32)) (map T.view entries.now) }
     ensures { result ≡ begins_with_zero_of T.shape (map T.view entries.now) }
 {
     match entries.get(0) {
-        Some(first) => first.written_len() == 0,
+        Some(first) => first.rows_len(&AsTheyStand) == 0,
         None => true,
     }
 }
 
 // Whether the first text, if there is one, is empty.
-fn begins_with_empty(texts: &List<Text>) -> bool
+fn begins_with_empty(texts: &List<TextRef<'_>>) -> bool
     ensures { result ≡ begins_with_zero_of TextShape texts.now }
 {
     match texts.get(0) {

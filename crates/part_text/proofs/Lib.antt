@@ -1,6 +1,6 @@
 pub mod Writes
 pub mod Varints
-pub mod Payloads
+pub mod Steps
 pub mod Remainders
 pub mod Positions
 pub mod Endings

@@ -1,9 +1,9 @@
 -- Varints that are put byte by byte.
-use Rattle.std.proofs.Common.{◌≡◌, ℕ, ◌+◌, ◌/◌, ◌%◌, ◌<◌, ◌≤◌, List, ◌++◌, length, take, drop, set, sym, ap, ◌∙◌, arith}
+use Rattle.std.proofs.Common.{◌≡◌, ℕ, ◌+◌, ◌/◌, ◌%◌, ◌<◌, ◌≤◌, List, ◌++◌, length, take, drop, set, sym, ap, subst, ◌∙◌, arith}
 use Rattle.std.proofs.lemmas.List.{take_more_set, drop-set-lt}
 use Rattle.schema.specs.Texts.{varint}
 use Rattle.schema_laws.proofs.Onto.{varint_small, varint_onto}
-use Rattle.part_text.specs.Writes.{put_at}
+use Rattle.part_text.specs.Writes.{IsPutBefore}
 use Rattle.part_text.proofs.Writes.{drop_later, put_is}
 
 -- a byte that goes on
@@ -17,9 +17,12 @@ pub byte_after : (bytes old : List ℕ) (place y : ℕ) → drop place bytes ≡
 byte_after bytes old place y e = drop-set-lt (place + 1) bytes place y (omega arith) ∙ drop_later bytes old place (place + 1) (omega arith) e
 
 -- the last byte
-pub last_put : (bytes old : List ℕ) (at place n : ℕ) (text : List ℕ) → place < length bytes → n < 128 → take place bytes ++ varint n ≡ take at old ++ text
-    → drop place bytes ≡ drop place old → place + 1 ≡ at + length text → set bytes place n ≡ put_at old at text
-last_put bytes old at place n text l s e f g =
-    put_is old (set bytes place n) at (place + 1) text g
+pub last_put : (bytes old : List ℕ) (at place n end : ℕ) (text : List ℕ) → place < length bytes → at ≤ length old → n < 128
+    → take place bytes ++ varint n ≡ take at old ++ text → drop place bytes ≡ drop place old → place + 1 ≡ end → end ≡ at + length text
+    → IsPutBefore old (set bytes place n) text at end
+last_put bytes old at place n end text l k s e f g h =
+    let m : place + 1 ≡ at + length text = g ∙ h in
+    subst (IsPutBefore old (set bytes place n) text at) g
+    (put_is old (set bytes place n) at (place + 1) text k m
     (take_more_set bytes place n l ∙ ap (λ x. take place bytes ++ x) (sym (varint_small n s)) ∙ e)
-    (byte_after bytes old place n f)
+    (byte_after bytes old place n f))

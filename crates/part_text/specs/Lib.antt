@@ -1,4 +1,3 @@
 pub mod Extents
-pub mod Payloads
 pub mod Remainders
 pub mod Writes

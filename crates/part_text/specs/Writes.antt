@@ -1,6 +1,8 @@
 -- Bytes that are put in place of others.
-use Rattle.std.specs.Prelude.{ℕ, ◌+◌, List, ◌++◌, length, take, drop}
+use Rattle.std.specs.Prelude.{◌≡◌, ℕ, ◌+◌, List, ◌++◌, length, take, drop}
 
--- these bytes, with a text from this place on instead of what was there
-unfoldable pub put_at : List ℕ → ℕ → List ℕ → List ℕ
-put_at bytes at text = take at bytes ++ (text ++ drop (at + length text) bytes)
+-- the text is what the new bytes have from `start` to `end`; what is in front of it and after it is that of the old ones
+pub record IsPutBefore (old new text : List ℕ) (start end : ℕ) : Type 0 where
+  pub ends : start + length text ≡ end
+  pub front : take start new ≡ take start old
+  pub after : drop start new ≡ text ++ drop end old

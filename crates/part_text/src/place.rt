@@ -1,24 +1,25 @@
-//! Bytes that are put in place of others, and moved.
-ghost use Rattle.std.specs.Prelude.{◌≡◌, ◌+◌, ◌<◌, ◌≤◌, ◌++◌, length, take, drop};
+//! Bytes that are put in front of a place, and moved.
+ghost use Rattle.std.specs.Prelude.{◌≡◌, ◌+◌, ◌<◌, ◌≤◌, length, take, drop};
 ghost use Rattle.schema.specs.Texts.{varint};
-ghost use Rattle.part_text.specs.Writes.{put_at};
+ghost use Rattle.part_text.specs.Writes.{IsPutBefore};
 
-/// Puts a text at a place, and says where it ends.
-pub(crate) fn put_text(bytes: &mut [u8], at: usize, text: &[u8]) -> usize
-    requires { at + length text.now ≤ length bytes.old }
-    ensures put { bytes.new ≡ put_at bytes.old at text.now }
-    ensures stop { result ≡ at + length text.now }
+use pb_wire::varint_len;
+
+/// Puts a text in front of a place, and says where it begins.
+pub(crate) fn put_text(bytes: &mut [u8], end: usize, text: &[u8]) -> usize
+    requires room { length text.now ≤ end }
+    requires within { end ≤ length bytes.old }
+    ensures { IsPutBefore bytes.old bytes.new text.now result end }
 {
-    let end = at + text.len();
-    bytes[at..end].copy_from_slice(text);
-    end
+    let start = end - text.len();
+    bytes[start..end].copy_from_slice(text);
+    start
 }
 
-/// Puts the shortest varint at a place, and says where it ends.
-pub(crate) fn put_varint(bytes: &mut [u8], at: usize, value: u64) -> usize
+// Puts the shortest varint at a place.
+fn put_varint_at(bytes: &mut [u8], at: usize, value: u64)
     requires { at + length (varint value) ≤ length bytes.old }
-    ensures put { bytes.new ≡ put_at bytes.old at (varint value) }
-    ensures stop { result ≡ at + length (varint value) }
+    ensures { IsPutBefore bytes.old bytes.new (varint value) at (at + length (varint value)) }
 {
     let mut place = at;
     let mut rest = value;
@@ -28,7 +29,17 @@ pub(crate) fn put_varint(bytes: &mut [u8], at: usize, value: u64) -> usize
         rest /= 128;
     }
     bytes[place] = rest as u8;
-    place + 1
+}
+
+/// Puts the shortest varint in front of a place, and says where it begins.
+pub(crate) fn put_varint(bytes: &mut [u8], end: usize, value: u64) -> usize
+    requires room { length (varint value) ≤ end }
+    requires within { end ≤ length bytes.old }
+    ensures { IsPutBefore bytes.old bytes.new (varint value) result end }
+{
+    let start = end - varint_len(value);
+    put_varint_at(bytes, start, value);
+    start
 }
 
 // Puts a copy of so many bytes at another place, by way of a block that is no shorter.
@@ -36,7 +47,7 @@ fn move_block(bytes: &mut [u8], from: usize, to: usize, len: usize, block: &mut 
     requires from { from + len ≤ length bytes.old }
     requires to { to + len ≤ length bytes.old }
     requires block { len ≤ length block.old }
-    ensures put { bytes.new ≡ put_at bytes.old to (take len (drop from bytes.old)) }
+    ensures put { IsPutBefore bytes.old bytes.new (take len (drop from bytes.old)) to (to + len) }
     ensures block { length block.new ≡ length block.old }
 {
     let held = &mut block[..len];
@@ -44,42 +55,26 @@ fn move_block(bytes: &mut [u8], from: usize, to: usize, len: usize, block: &mut 
     bytes[to..to + len].copy_from_slice(held);
 }
 
-/// Puts a copy of so many bytes at a place in front of them, and says where it ends. The two may overlap.
-pub(crate) fn move_down(
+/// Moves so many bytes up in front of a place, the last ones first, and says where they begin. The two places may overlap.
+pub(crate) fn move_up(
     bytes: &mut [u8],
     from: usize,
-    to: usize,
     len: usize,
+    end: usize,
     block: &mut [u8],
 ) -> usize
-    requires order { to ≤ from }
-    requires within { from + len ≤ length bytes.old }
+    requires order { from + len ≤ end }
+    requires within { end ≤ length bytes.old }
     requires block { 0 < length block.old }
-    ensures put { bytes.new ≡ put_at bytes.old to (take len (drop from bytes.old)) }
-    ensures stop { result ≡ to + len }
+    ensures put { IsPutBefore bytes.old bytes.new (take len (drop from bytes.old)) result end }
     ensures block { length block.new ≡ length block.old }
 {
-    let mut moved = 0;
-    while moved < len {
-        let count = block.len().min(len - moved);
-        move_block(bytes, from + moved, to + moved, count, block);
-        moved += count;
-    }
-    to + len
-}
-
-/// Moves so many bytes from the front towards the end. What is left in front of them is of no matter.
-pub(crate) fn move_up(bytes: &mut [u8], len: usize, by: usize, block: &mut [u8])
-    requires within { by + len ≤ length bytes.old }
-    requires block { 0 < length block.old }
-    ensures moved { drop by bytes.new ≡ take len bytes.old ++ drop (by + len) bytes.old }
-    ensures same { length bytes.new ≡ length bytes.old }
-    ensures block { length block.new ≡ length block.old }
-{
+    let start = end - len;
     let mut left = len;
     while left > 0 {
         let count = block.len().min(left);
         left -= count;
-        move_block(bytes, left, by + left, count, block);
+        move_block(bytes, from + left, start + left, count, block);
     }
+    start
 }

@@ -1,4 +1,5 @@
 pub mod Parts
 pub mod Sums
+pub mod LastHeads
 pub mod Records
 pub mod Values

@@ -3,6 +3,6 @@ pub mod Parts
 pub mod Occurrences
 pub mod Eights
 pub mod Prefixes
-pub mod Rows
+pub mod RowTexts
 pub mod Utf8
 pub mod Types

@@ -7,7 +7,7 @@ use Rattle.schema.specs.Spell.{len_onto, spell, spell_onto}
 use Rattle.schema.specs.Texts.{FitsNumber, bytes_field, numbers_text, number_to, varint}
 use Rattle.schema_laws.proofs.Lists.{each_append}
 use Rattle.schema_laws.proofs.Onto.{onto, onto_len, varint_some}
-use Rattle.pb_wire.proofs.Rows.{bytes_none}
+use Rattle.pb_wire.proofs.RowTexts.{bytes_none}
 
 -- each element up to the next one
 pub each_next : {X : Type 0} (P : X → Type 0) (xs : List X) (i : ℕ) (x : X) → i < length xs → x ≡ get_or xs i x → Each P (take i xs) → P x → Each P (take (i + 1) xs)

@@ -1,5 +1,5 @@
 -- What calls answer, against what the definitions of `schema` say.
-use Rattle.std.specs.Prelude.{◌≡◌, ℕ, ◌+◌, ◌<◌, ◌≤◌, ◌++◌, List, length, drop, Result, Ok, Err, Option, Some, None}
+use Rattle.std.specs.Prelude.{◌≡◌, ℕ, ◌+◌, ◌<◌, ◌≤◌, List, length, drop, Result, Ok, Err, Option, Some, None}
 use Rattle.schema.specs.Fault as faults
 use Rattle.schema.specs.Fault.{Fault}
 use Rattle.schema.specs.Decoding.{field_at}

@@ -62,7 +62,7 @@ fn packed_len<I: NewIndexes>(table: TableKind, items: &[i32], indexes: &I) -> u6
 }
 
 /// The length of the row of packed indexes.
-#[tactic(auto, using(schema_laws::proofs::Lengths::bytes_field_le, crate::proofs::Rows::bytes_none, crate::proofs::Rows::bytes_some, schema_laws::proofs::Onto::long_len))]
+#[tactic(auto, using(schema_laws::proofs::Lengths::bytes_field_le, crate::proofs::RowTexts::bytes_none, crate::proofs::RowTexts::bytes_some, schema_laws::proofs::Onto::long_len))]
 pub fn indexes_len<I: NewIndexes>(number: u32, table: TableKind, items: &[i32], indexes: &I) -> u64
     requires below { number < 2 ^ 29 }
     requires room { length (bytes_field number (numbers_text I32 (map (I.to indexes.now (table_of table)) (map (λ i. i) items.now)))) < 2 ^ 63 }
@@ -96,7 +96,7 @@ fn push_packed<I: NewIndexes>(
 }
 
 /// Puts the new indexes, unless there are none, packed after one tag and length.
-#[tactic(auto, using(crate::proofs::Prefixes::growing, schema_laws::proofs::Onto::long_onto, schema_laws::proofs::Lengths::bytes_field_le, crate::proofs::Rows::left_out, crate::proofs::Rows::bytes_some))]
+#[tactic(auto, using(crate::proofs::Prefixes::growing, schema_laws::proofs::Onto::long_onto, schema_laws::proofs::Lengths::bytes_field_le, crate::proofs::RowTexts::left_out, crate::proofs::RowTexts::bytes_some))]
 pub fn put_indexes<I: NewIndexes>(
     out: &mut Blob,
     number: u32,

@@ -5,7 +5,7 @@ ghost use Rattle.schema.specs.Texts.{varint, number_to, number_field, fixed_fiel
 ghost use Rattle.schema.specs.Spell.{spell};
 
 use crate::put::varint_len;
-use crate::{Blob, NewIndexes, Number, Text, Wire};
+use crate::{BytesRef, NewIndexes, Number, Rows, TextRef};
 
 /// The length of a tag, of a length, and of the bytes after them.
 #[inline]
@@ -46,8 +46,8 @@ pub fn fixed_len(number: u32, value: u64) -> u64
 
 /// The length of the row of bytes.
 #[inline]
-#[tactic(auto, using(schema_laws::proofs::Lengths::bytes_field_le, crate::proofs::Rows::bytes_none, crate::proofs::Rows::bytes_some, schema_laws::proofs::Onto::long_len))]
-pub fn bytes_len(number: u32, bytes: &Blob) -> u64
+#[tactic(auto, using(schema_laws::proofs::Lengths::bytes_field_le, crate::proofs::RowTexts::bytes_none, crate::proofs::RowTexts::bytes_some, schema_laws::proofs::Onto::long_len))]
+pub fn bytes_len(number: u32, bytes: &BytesRef<'_>) -> u64
     requires below { number < 2 ^ 29 }
     requires room { length (bytes_field number bytes.now) < 2 ^ 63 }
     ensures { result ≡ length (bytes_field number bytes.now) }
@@ -60,8 +60,8 @@ pub fn bytes_len(number: u32, bytes: &Blob) -> u64
 
 /// The length of the row of a text.
 #[inline]
-#[tactic(auto, using(schema_laws::proofs::Lengths::bytes_field_le, crate::proofs::Rows::bytes_none, crate::proofs::Rows::bytes_some, schema_laws::proofs::Onto::long_len))]
-pub fn text_len(number: u32, text: &Text) -> u64
+#[tactic(auto, using(schema_laws::proofs::Lengths::bytes_field_le, crate::proofs::RowTexts::bytes_none, crate::proofs::RowTexts::bytes_some, schema_laws::proofs::Onto::long_len))]
+pub fn text_len(number: u32, text: &TextRef<'_>) -> u64
     requires below { number < 2 ^ 29 }
     requires room { length (bytes_field number text.now) < 2 ^ 63 }
     ensures { result ≡ length (bytes_field number text.now) }
@@ -75,8 +75,8 @@ pub fn text_len(number: u32, text: &Text) -> u64
 
 /// The length of the row of a message.
 #[inline]
-#[tactic(auto, using(schema_laws::proofs::Lengths::bytes_field_le, crate::proofs::Rows::bytes_none, crate::proofs::Rows::bytes_some, schema_laws::proofs::Onto::long_len, schema_laws::proofs::Onto::onto_len))]
-pub fn message_len<T: Wire, I: NewIndexes>(number: u32, message: &T, indexes: &I) -> u64
+#[tactic(auto, using(schema_laws::proofs::Lengths::bytes_field_le, crate::proofs::RowTexts::bytes_none, crate::proofs::RowTexts::bytes_some, schema_laws::proofs::Onto::long_len, schema_laws::proofs::Onto::onto_len))]
+pub fn message_len<T: Rows, I: NewIndexes>(number: u32, message: &T, indexes: &I) -> u64
     requires below { number < 2 ^ 29 }
     requires room { length (bytes_field number (spell T.shape (moved (I.to indexes.now) T.shape (T.view message.now)))) < 2 ^ 63 }
     ensures { result ≡ length (bytes_field number (spell T.shape (moved (I.to indexes.now) T.shape (T.view message.now)))) }
@@ -102,7 +102,7 @@ pub(crate) fn packed_len<N: Number>(items: &[N]) -> u64
 }
 
 /// The length of the row of packed numbers.
-#[tactic(auto, using(schema_laws::proofs::Lengths::bytes_field_le, crate::proofs::Rows::bytes_none, crate::proofs::Rows::bytes_some, schema_laws::proofs::Onto::long_len))]
+#[tactic(auto, using(schema_laws::proofs::Lengths::bytes_field_le, crate::proofs::RowTexts::bytes_none, crate::proofs::RowTexts::bytes_some, schema_laws::proofs::Onto::long_len))]
 pub fn numbers_len<N: Number>(number: u32, items: &[N]) -> u64
     requires below { number < 2 ^ 29 }
     requires room { length (bytes_field number (numbers_text N.format (map N.value items.now))) < 2 ^ 63 }
@@ -117,7 +117,7 @@ pub fn numbers_len<N: Number>(number: u32, items: &[N]) -> u64
 
 /// The length of the row of packed eight-byte values.
 #[inline]
-#[tactic(auto, using(schema_laws::proofs::Lengths::bytes_field_le, crate::proofs::Rows::bytes_none, crate::proofs::Rows::bytes_some, schema_laws::proofs::Onto::long_len, schema_laws::proofs::FixedNumbers::fixed_len))]
+#[tactic(auto, using(schema_laws::proofs::Lengths::bytes_field_le, crate::proofs::RowTexts::bytes_none, crate::proofs::RowTexts::bytes_some, schema_laws::proofs::Onto::long_len, schema_laws::proofs::FixedNumbers::fixed_len))]
 pub fn fixed_list_len(number: u32, items: &[u64]) -> u64
     requires below { number < 2 ^ 29 }
     requires room { length (bytes_field number (fixed_text items.now)) < 2 ^ 63 }
@@ -131,7 +131,7 @@ pub fn fixed_list_len(number: u32, items: &[u64]) -> u64
 
 /// The length of the row of repeated bytes.
 #[tactic(auto, using(schema_laws::proofs::Onto::long_len))]
-pub fn bytes_list_len(number: u32, items: &[Blob]) -> u64
+pub fn bytes_list_len(number: u32, items: &[BytesRef<'_>]) -> u64
     requires below { number < 2 ^ 29 }
     requires room { length (items_text number items.now) < 2 ^ 63 }
     ensures { result ≡ length (items_text number items.now) }
@@ -145,7 +145,7 @@ pub fn bytes_list_len(number: u32, items: &[Blob]) -> u64
 
 /// The length of the row of repeated texts.
 #[tactic(auto, using(schema_laws::proofs::Onto::long_len))]
-pub fn text_list_len(number: u32, items: &[Text]) -> u64
+pub fn text_list_len(number: u32, items: &[TextRef<'_>]) -> u64
     requires below { number < 2 ^ 29 }
     requires room { length (items_text number items.now) < 2 ^ 63 }
     ensures { result ≡ length (items_text number items.now) }
@@ -158,8 +158,8 @@ pub fn text_list_len(number: u32, items: &[Text]) -> u64
 }
 
 /// The length of the row of repeated messages.
-#[tactic(auto, using(schema_laws::proofs::Onto::long_len, schema_laws::proofs::Onto::onto_len, crate::proofs::Rows::items_moved))]
-pub fn messages_len<T: Wire, I: NewIndexes>(number: u32, items: &[T], indexes: &I) -> u64
+#[tactic(auto, using(schema_laws::proofs::Onto::long_len, schema_laws::proofs::Onto::onto_len, crate::proofs::RowTexts::items_moved))]
+pub fn messages_len<T: Rows, I: NewIndexes>(number: u32, items: &[T], indexes: &I) -> u64
     requires below { number < 2 ^ 29 }
     requires room { length (items_text number (map (spell T.shape) (map (moved (I.to indexes.now) T.shape) (map T.view items.now)))) < 2 ^ 63 }
     ensures { result ≡ length (items_text number (map (spell T.shape) (map (moved (I.to indexes.now) T.shape) (map T.view items.now)))) }

@@ -2,6 +2,7 @@
 #![tactic(auto)]
 
 mod blob;
+mod borrowed;
 mod fault;
 mod field;
 mod index_rows;
@@ -15,12 +16,14 @@ mod number;
 mod pieces;
 mod put;
 mod put_rows;
+mod rows;
 mod table_kind;
 mod take;
 mod text;
 mod wire;
 
 pub use blob::Blob;
+pub use borrowed::{BytesRef, TextRef};
 pub use fault::{ReadFault, Reason, WireFault};
 pub use field::{Field, Payload};
 pub use index_rows::{index_len, indexes_len, put_index, put_indexes};
@@ -40,6 +43,7 @@ pub use put_rows::{
     put_bytes, put_bytes_list, put_fixed, put_fixed_list, put_message, put_messages, put_number,
     put_numbers, put_text, put_text_list,
 };
+pub use rows::Rows;
 pub use table_kind::TableKind;
 pub use take::{
     add_bytes, add_fixed, add_message, add_number, add_text, take_bytes, take_fixed, take_message,

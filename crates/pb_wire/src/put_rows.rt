@@ -10,7 +10,7 @@ ghost use Rattle.schema.specs.Prefix.{IsPrefix};
 
 use crate::lengths::packed_len;
 use crate::put::{push_long, push_varint};
-use crate::{Blob, NewIndexes, NoMemory, Number, Text, Wire};
+use crate::{Blob, BytesRef, NewIndexes, NoMemory, Number, Rows, TextRef};
 
 /// Puts a number that is not 0.
 #[inline]
@@ -64,7 +64,7 @@ fn put_slice(out: &mut Blob, number: u32, bytes: &[u8]) -> Result<(), NoMemory>
 
 /// Puts bytes that are not empty.
 #[inline]
-pub fn put_bytes(out: &mut Blob, number: u32, bytes: &Blob) -> Result<(), NoMemory>
+pub fn put_bytes(out: &mut Blob, number: u32, bytes: &BytesRef<'_>) -> Result<(), NoMemory>
     requires { number < 2 ^ 29 }
     ensures ok { OnOk result (out.new ≡ out.old ++ bytes_field number bytes.now) }
     ensures err { OnErr result (IsPrefix out.old out.new) }
@@ -75,7 +75,7 @@ pub fn put_bytes(out: &mut Blob, number: u32, bytes: &Blob) -> Result<(), NoMemo
 
 /// Puts a text that is not empty.
 #[inline]
-pub fn put_text(out: &mut Blob, number: u32, text: &Text) -> Result<(), NoMemory>
+pub fn put_text(out: &mut Blob, number: u32, text: &TextRef<'_>) -> Result<(), NoMemory>
     requires { number < 2 ^ 29 }
     ensures ok { OnOk result (out.new ≡ out.old ++ bytes_field number text.now) }
     ensures err { OnErr result (IsPrefix out.old out.new) }
@@ -87,7 +87,7 @@ pub fn put_text(out: &mut Blob, number: u32, text: &Text) -> Result<(), NoMemory
 
 /// Puts each element after its own tag and length, also an empty one.
 #[tactic(auto, using(crate::proofs::Prefixes::growing))]
-pub fn put_bytes_list(out: &mut Blob, number: u32, items: &[Blob]) -> Result<(), NoMemory>
+pub fn put_bytes_list(out: &mut Blob, number: u32, items: &[BytesRef<'_>]) -> Result<(), NoMemory>
     requires { number < 2 ^ 29 }
     ensures ok { OnOk result (out.new ≡ out.old ++ items_text number items.now) }
     ensures err { OnErr result (IsPrefix out.old out.new) }
@@ -102,7 +102,7 @@ pub fn put_bytes_list(out: &mut Blob, number: u32, items: &[Blob]) -> Result<(),
 
 /// Puts each element after its own tag and length, also an empty one.
 #[tactic(auto, using(crate::proofs::Types::each_next, crate::proofs::Prefixes::growing))]
-pub fn put_text_list(out: &mut Blob, number: u32, items: &[Text]) -> Result<(), NoMemory>
+pub fn put_text_list(out: &mut Blob, number: u32, items: &[TextRef<'_>]) -> Result<(), NoMemory>
     requires { number < 2 ^ 29 }
     ensures ok { OnOk result (out.new ≡ out.old ++ items_text number items.now) }
     ensures err { OnErr result (IsPrefix out.old out.new) }
@@ -118,7 +118,7 @@ pub fn put_text_list(out: &mut Blob, number: u32, items: &[Text]) -> Result<(), 
 
 /// Puts a message, whose length is known, after its tag and length.
 #[tactic(auto, using(crate::proofs::Prefixes::growing, schema_laws::proofs::Onto::long_onto, schema_laws::proofs::Onto::onto, schema_laws::proofs::Onto::onto_len))]
-fn push_message<T: Wire, I: NewIndexes>(
+fn push_message<T: Rows, I: NewIndexes>(
     out: &mut Blob,
     number: u32,
     len: u64,
@@ -139,8 +139,8 @@ fn push_message<T: Wire, I: NewIndexes>(
 }
 
 /// Puts a message that is not empty.
-#[tactic(auto, using(crate::proofs::Prefixes::growing, schema_laws::proofs::Lengths::bytes_field_le, crate::proofs::Types::none_put, crate::proofs::Rows::bytes_some, schema_laws::proofs::Onto::onto_len))]
-pub fn put_message<T: Wire, I: NewIndexes>(
+#[tactic(auto, using(crate::proofs::Prefixes::growing, schema_laws::proofs::Lengths::bytes_field_le, crate::proofs::Types::none_put, crate::proofs::RowTexts::bytes_some, schema_laws::proofs::Onto::onto_len))]
+pub fn put_message<T: Rows, I: NewIndexes>(
     out: &mut Blob,
     number: u32,
     message: &T,
@@ -164,7 +164,7 @@ pub fn put_message<T: Wire, I: NewIndexes>(
 
 /// Puts each message after its own tag and length, also an empty one.
 #[tactic(auto, using(crate::proofs::Types::each_next, crate::proofs::Prefixes::growing))]
-pub fn put_messages<T: Wire, I: NewIndexes>(
+pub fn put_messages<T: Rows, I: NewIndexes>(
     out: &mut Blob,
     number: u32,
     items: &[T],
@@ -200,7 +200,7 @@ fn push_packed<N: Number>(out: &mut Blob, items: &[N]) -> Result<(), NoMemory>
 }
 
 /// Puts numbers, unless there are none, packed after one tag and length.
-#[tactic(auto, using(crate::proofs::Types::none_fit, crate::proofs::Prefixes::growing, schema_laws::proofs::Onto::long_onto, schema_laws::proofs::Lengths::bytes_field_le, crate::proofs::Rows::left_out, crate::proofs::Rows::bytes_some))]
+#[tactic(auto, using(crate::proofs::Types::none_fit, crate::proofs::Prefixes::growing, schema_laws::proofs::Onto::long_onto, schema_laws::proofs::Lengths::bytes_field_le, crate::proofs::RowTexts::left_out, crate::proofs::RowTexts::bytes_some))]
 pub fn put_numbers<N: Number>(out: &mut Blob, number: u32, items: &[N]) -> Result<(), NoMemory>
     requires below { number < 2 ^ 29 }
     requires room { length (bytes_field number (numbers_text N.format (map N.value items.now))) < 2 ^ 63 }
@@ -234,7 +234,7 @@ fn push_eights(out: &mut Blob, items: &[u64]) -> Result<(), NoMemory>
 }
 
 /// Puts eight-byte values, unless there are none, packed after one tag and length.
-#[tactic(auto, using(crate::proofs::Prefixes::growing, schema_laws::proofs::Onto::long_onto, schema_laws::proofs::Lengths::bytes_field_le, crate::proofs::Rows::left_out, crate::proofs::Rows::bytes_some, schema_laws::proofs::FixedNumbers::fixed_len))]
+#[tactic(auto, using(crate::proofs::Prefixes::growing, schema_laws::proofs::Onto::long_onto, schema_laws::proofs::Lengths::bytes_field_le, crate::proofs::RowTexts::left_out, crate::proofs::RowTexts::bytes_some, schema_laws::proofs::FixedNumbers::fixed_len))]
 pub fn put_fixed_list(out: &mut Blob, number: u32, items: &[u64]) -> Result<(), NoMemory>
     requires below { number < 2 ^ 29 }
     requires room { length (bytes_field number (fixed_text items.now)) < 2 ^ 63 }

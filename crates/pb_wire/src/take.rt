@@ -9,7 +9,7 @@ ghost use Rattle.pb_wire.specs.View.{payload_view, reason_view};
 
 use crate::next::varint;
 use crate::{
-    Blob, Field, List, NoMemory, Number, Payload, ReadFault, Reason, Text, Wire, WireFault,
+    BytesRef, Field, List, NoMemory, Number, Payload, ReadFault, Reason, TextRef, Wire, WireFault,
 };
 use std::alloc::Global;
 
@@ -38,21 +38,23 @@ pub fn take_fixed(slot: &mut u64, field: &Field<'_>) -> Result<(), ReadFault>
 }
 
 /// Takes singular bytes.
-pub fn take_bytes(slot: &mut Blob, alloc: Global, field: &Field<'_>) -> Result<(), ReadFault>
-    ensures { Took slot.new result (Ok (one_bytes (payload_view field.now.payload) slot.old)) }
+pub fn take_bytes<'a>(slot: &mut BytesRef<'a>, field: &Field<'a>) -> Result<(), ReadFault>
+    ensures taken { Took slot.new result (Ok (one_bytes (payload_view field.now.payload) slot.old)) }
+    ensures no_memory { TakesNone result }
 {
     if let Payload::Bytes(bytes) = field.payload {
-        *slot = Blob::copy_of(alloc, bytes)?;
+        *slot = BytesRef::of(bytes);
     }
     Ok(())
 }
 
 /// The text of bytes; `at` is the place of their field's tag.
-pub fn text_of(alloc: Global, bytes: &[u8], at: u64) -> Result<Text, ReadFault>
-    ensures { Reads (λ t. t) result (text_at at bytes.now) }
+pub fn text_of<'a>(bytes: &'a [u8], at: u64) -> Result<TextRef<'a>, ReadFault>
+    ensures text { Reads (λ t. t) result (text_at at bytes.now) }
+    ensures no_memory { TakesNone result }
 {
     match str::from_utf8(bytes) {
-        Ok(text) => Ok(Text::copy_of(alloc, text)?),
+        Ok(text) => Ok(TextRef::of(text)),
         Err(_) => Err(ReadFault::Wire(WireFault {
             place: at,
             reason: Reason::NotUtf8,
@@ -61,20 +63,21 @@ pub fn text_of(alloc: Global, bytes: &[u8], at: u64) -> Result<Text, ReadFault>
 }
 
 /// Takes a singular text.
-pub fn take_text(slot: &mut Text, alloc: Global, field: &Field<'_>) -> Result<(), ReadFault>
-    ensures { Took slot.new result (one_text field.now.at (payload_view field.now.payload) slot.old) }
+pub fn take_text<'a>(slot: &mut TextRef<'a>, field: &Field<'a>) -> Result<(), ReadFault>
+    ensures taken { Took slot.new result (one_text field.now.at (payload_view field.now.payload) slot.old) }
+    ensures no_memory { TakesNone result }
 {
     if let Payload::Bytes(bytes) = field.payload {
-        *slot = text_of(alloc, bytes, field.at)?;
+        *slot = text_of(bytes, field.at)?;
     }
     Ok(())
 }
 
 /// Takes a singular message: its occurrences are read as their payloads joined.
-pub fn take_message<T: Wire>(
+pub fn take_message<'a, T: Wire<'a>>(
     slot: &mut T,
     alloc: Global,
-    field: &Field<'_>,
+    field: &Field<'a>,
 ) -> Result<(), ReadFault>
     requires inside { length (bytes_of (payload_view field.now.payload)) ≤ field.now.end }
     requires below { field.now.end < 2 ^ 63 }
@@ -87,10 +90,10 @@ pub fn take_message<T: Wire>(
 }
 
 /// Takes one element of a repeated message.
-pub fn add_message<T: Wire>(
+pub fn add_message<'a, T: Wire<'a>>(
     slot: &mut List<T>,
     alloc: Global,
-    field: &Field<'_>,
+    field: &Field<'a>,
 ) -> Result<(), ReadFault>
     requires inside { length (bytes_of (payload_view field.now.payload)) ≤ field.now.end }
     requires below { field.now.end < 2 ^ 63 }
@@ -183,12 +186,12 @@ pub fn add_fixed(slot: &mut List<u64>, field: &Field<'_>) -> Result<(), ReadFaul
 }
 
 /// Takes one element of repeated bytes.
-pub fn add_bytes(slot: &mut List<Blob>, alloc: Global, field: &Field<'_>) -> Result<(), ReadFault>
+pub fn add_bytes<'a>(slot: &mut List<BytesRef<'a>>, field: &Field<'a>) -> Result<(), ReadFault>
     ensures { Took slot.new result (Ok (more_bytes (payload_view field.now.payload) slot.old)) }
 {
     match field.payload {
         Payload::Bytes(bytes) => {
-            slot.add(Blob::copy_of(alloc, bytes)?)?;
+            slot.add(BytesRef::of(bytes))?;
             Ok(())
         }
         _ => Ok(()),
@@ -196,12 +199,12 @@ pub fn add_bytes(slot: &mut List<Blob>, alloc: Global, field: &Field<'_>) -> Res
 }
 
 /// Takes one element of a repeated text.
-pub fn add_text(slot: &mut List<Text>, alloc: Global, field: &Field<'_>) -> Result<(), ReadFault>
+pub fn add_text<'a>(slot: &mut List<TextRef<'a>>, field: &Field<'a>) -> Result<(), ReadFault>
     ensures { Took slot.new result (more_texts field.now.at (payload_view field.now.payload) slot.old) }
 {
     match field.payload {
         Payload::Bytes(bytes) => {
-            slot.add(text_of(alloc, bytes, field.at)?)?;
+            slot.add(text_of(bytes, field.at)?)?;
             Ok(())
         }
         _ => Ok(()),

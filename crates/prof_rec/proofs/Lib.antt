@@ -1,3 +1,4 @@
+pub mod LengthBytes
 pub mod Onto
 pub mod Heads
 pub mod Reading

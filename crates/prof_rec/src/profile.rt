@@ -5,16 +5,16 @@ ghost use Rattle.prof_rec.specs.Views.{profile_view};
 
 use crate::{Samples, ValueType, put_samples, samples_len};
 use pb_wire::{
-    Blob, Field, List, NewIndexes, NoMemory, ReadFault, TableKind, Text, Wire, add_number,
-    bytes_len, fixed_len, indexes_len, message_len, number_len, put_bytes, put_fixed, put_indexes,
-    put_message, put_number, put_text, take_bytes, take_fixed, take_message, take_number,
-    take_text, text_len,
+    Blob, BytesRef, Field, List, NewIndexes, NoMemory, ReadFault, Rows, TableKind, TextRef, Wire,
+    add_number, bytes_len, fixed_len, indexes_len, message_len, number_len, put_bytes, put_fixed,
+    put_indexes, put_message, put_number, put_text, take_bytes, take_fixed, take_message,
+    take_number, take_text, text_len,
 };
 use std::alloc::Global;
 
 /// A profile: samples of one type.
 #[derive(Debug, Drop)]
-pub struct Profile {
+pub struct Profile<'a> {
     /// What the values of the samples are.
     pub sample_type: ValueType,
     pub samples: Samples,
@@ -26,15 +26,15 @@ pub struct Profile {
     pub period_type: ValueType,
     /// How many units lie between two samples.
     pub period: i64,
-    pub profile_id: Blob,
+    pub profile_id: BytesRef<'a>,
     pub dropped_attributes_count: u32,
-    pub original_payload_format: Text,
-    pub original_payload: Blob,
+    pub original_payload_format: TextRef<'a>,
+    pub original_payload: BytesRef<'a>,
     /// Indexes into the attribute table.
     pub attribute_indices: List<i32>,
 }
 
-impl Wire for Profile {
+impl<'a> Rows for Profile<'a> {
     ghost shape = { profile };
 
     ghost view = { profile_view };
@@ -42,39 +42,6 @@ impl Wire for Profile {
     ghost message = { tt };
 
     ghost lawful = { refl };
-
-    fn none(alloc: Global) -> Profile {
-        Profile {
-            sample_type: ValueType::none(alloc),
-            samples: Samples::begin(alloc),
-            time_unix_nano: 0,
-            duration_nano: 0,
-            period_type: ValueType::none(alloc),
-            period: 0,
-            profile_id: Blob::begin(alloc),
-            dropped_attributes_count: 0,
-            original_payload_format: Text::begin(alloc),
-            original_payload: Blob::begin(alloc),
-            attribute_indices: List::begin(alloc),
-        }
-    }
-
-    fn take(&mut self, alloc: Global, field: &Field<'_>) -> Result<(), ReadFault> {
-        match field.number {
-            1 => take_message(&mut self.sample_type, alloc, field),
-            2 => self.samples.take(alloc, field),
-            3 => take_fixed(&mut self.time_unix_nano, field),
-            4 => take_number(&mut self.duration_nano, field),
-            5 => take_message(&mut self.period_type, alloc, field),
-            6 => take_number(&mut self.period, field),
-            7 => take_bytes(&mut self.profile_id, alloc, field),
-            8 => take_number(&mut self.dropped_attributes_count, field),
-            9 => take_text(&mut self.original_payload_format, alloc, field),
-            10 => take_bytes(&mut self.original_payload, alloc, field),
-            11 => add_number(&mut self.attribute_indices, field),
-            _ => Ok(()),
-        }
-    }
 
     fn rows_len<I: NewIndexes>(&self, indexes: &I) -> u64 {
         message_len(1, &self.sample_type, indexes)
@@ -115,5 +82,40 @@ impl Wire for Profile {
             indexes,
         )?;
         Ok(())
+    }
+}
+
+impl<'a> Wire<'a> for Profile<'a> {
+    fn none(alloc: Global) -> Profile<'a> {
+        Profile {
+            sample_type: ValueType::none(alloc),
+            samples: Samples::begin(alloc),
+            time_unix_nano: 0,
+            duration_nano: 0,
+            period_type: ValueType::none(alloc),
+            period: 0,
+            profile_id: BytesRef::empty(),
+            dropped_attributes_count: 0,
+            original_payload_format: TextRef::empty(),
+            original_payload: BytesRef::empty(),
+            attribute_indices: List::begin(alloc),
+        }
+    }
+
+    fn take(&mut self, alloc: Global, field: &Field<'a>) -> Result<(), ReadFault> {
+        match field.number {
+            1 => take_message(&mut self.sample_type, alloc, field),
+            2 => self.samples.take(alloc, field),
+            3 => take_fixed(&mut self.time_unix_nano, field),
+            4 => take_number(&mut self.duration_nano, field),
+            5 => take_message(&mut self.period_type, alloc, field),
+            6 => take_number(&mut self.period, field),
+            7 => take_bytes(&mut self.profile_id, field),
+            8 => take_number(&mut self.dropped_attributes_count, field),
+            9 => take_text(&mut self.original_payload_format, field),
+            10 => take_bytes(&mut self.original_payload, field),
+            11 => add_number(&mut self.attribute_indices, field),
+            _ => Ok(()),
+        }
     }
 }

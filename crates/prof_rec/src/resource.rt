@@ -5,22 +5,22 @@ ghost use Rattle.prof_rec.specs.Views.{resource_view};
 
 use any_value::KeyValue;
 use pb_wire::{
-    Blob, Field, List, NewIndexes, NoMemory, ReadFault, Wire, add_bytes, add_message,
-    bytes_list_len, messages_len, number_len, put_bytes_list, put_messages, put_number,
-    take_number,
+    Blob, BytesRef, Field, List, NewIndexes, NoMemory, ReadFault, Rows, Wire, add_bytes,
+    add_message, bytes_list_len, messages_len, number_len, put_bytes_list, put_messages,
+    put_number, take_number,
 };
 use std::alloc::Global;
 
 /// What was profiled: a process, a container, a host.
 #[derive(Debug, Drop)]
-pub struct Resource {
-    pub attributes: List<KeyValue>,
+pub struct Resource<'a> {
+    pub attributes: List<KeyValue<'a>>,
     pub dropped_attributes_count: u32,
     /// Elements that are carried unread, each with its own bytes.
-    pub opaque: List<Blob>,
+    pub opaque: List<BytesRef<'a>>,
 }
 
-impl Wire for Resource {
+impl<'a> Rows for Resource<'a> {
     ghost shape = { resource };
 
     ghost view = { resource_view };
@@ -28,23 +28,6 @@ impl Wire for Resource {
     ghost message = { tt };
 
     ghost lawful = { refl };
-
-    fn none(alloc: Global) -> Resource {
-        Resource {
-            attributes: List::begin(alloc),
-            dropped_attributes_count: 0,
-            opaque: List::begin(alloc),
-        }
-    }
-
-    fn take(&mut self, alloc: Global, field: &Field<'_>) -> Result<(), ReadFault> {
-        match field.number {
-            1 => add_message(&mut self.attributes, alloc, field),
-            2 => take_number(&mut self.dropped_attributes_count, field),
-            3 => add_bytes(&mut self.opaque, alloc, field),
-            _ => Ok(()),
-        }
-    }
 
     fn rows_len<I: NewIndexes>(&self, indexes: &I) -> u64 {
         messages_len(1, self.attributes.as_slice(), indexes)
@@ -58,5 +41,24 @@ impl Wire for Resource {
         put_number(out, 2, self.dropped_attributes_count)?;
         put_bytes_list(out, 3, self.opaque.as_slice())?;
         Ok(())
+    }
+}
+
+impl<'a> Wire<'a> for Resource<'a> {
+    fn none(alloc: Global) -> Resource<'a> {
+        Resource {
+            attributes: List::begin(alloc),
+            dropped_attributes_count: 0,
+            opaque: List::begin(alloc),
+        }
+    }
+
+    fn take(&mut self, alloc: Global, field: &Field<'a>) -> Result<(), ReadFault> {
+        match field.number {
+            1 => add_message(&mut self.attributes, alloc, field),
+            2 => take_number(&mut self.dropped_attributes_count, field),
+            3 => add_bytes(&mut self.opaque, field),
+            _ => Ok(()),
+        }
     }
 }

@@ -5,24 +5,25 @@ ghost use Rattle.prof_rec.specs.Views.{resource_profiles_view};
 
 use crate::{Resource, ScopeProfiles};
 use pb_wire::{
-    Blob, Field, List, NewIndexes, NoMemory, ReadFault, Text, Wire, add_message, message_len,
-    messages_len, put_message, put_messages, put_text, take_message, take_text, text_len,
+    Blob, Field, List, NewIndexes, NoMemory, ReadFault, Rows, TextRef, Wire, add_message,
+    message_len, messages_len, put_message, put_messages, put_text, take_message, take_text,
+    text_len,
 };
 use std::alloc::Global;
 
 /// The profiles of one resource.
 #[derive(Debug, Drop)]
-pub struct ResourceProfiles {
-    pub resource: Resource,
-    pub scope_profiles: List<ScopeProfiles>,
+pub struct ResourceProfiles<'a> {
+    pub resource: Resource<'a>,
+    pub scope_profiles: List<ScopeProfiles<'a>>,
     /// The URL of the schema that the resource follows.
-    pub schema_url: Text,
+    pub schema_url: TextRef<'a>,
 }
 
 /// A list of resource records.
-pub type ResourceList = List<ResourceProfiles>;
+pub type ResourceList<'a> = List<ResourceProfiles<'a>>;
 
-impl Wire for ResourceProfiles {
+impl<'a> Rows for ResourceProfiles<'a> {
     ghost shape = { resource_profiles };
 
     ghost view = { resource_profiles_view };
@@ -30,23 +31,6 @@ impl Wire for ResourceProfiles {
     ghost message = { tt };
 
     ghost lawful = { refl };
-
-    fn none(alloc: Global) -> ResourceProfiles {
-        ResourceProfiles {
-            resource: Resource::none(alloc),
-            scope_profiles: List::begin(alloc),
-            schema_url: Text::begin(alloc),
-        }
-    }
-
-    fn take(&mut self, alloc: Global, field: &Field<'_>) -> Result<(), ReadFault> {
-        match field.number {
-            1 => take_message(&mut self.resource, alloc, field),
-            2 => add_message(&mut self.scope_profiles, alloc, field),
-            3 => take_text(&mut self.schema_url, alloc, field),
-            _ => Ok(()),
-        }
-    }
 
     fn rows_len<I: NewIndexes>(&self, indexes: &I) -> u64 {
         message_len(1, &self.resource, indexes)
@@ -60,5 +44,24 @@ impl Wire for ResourceProfiles {
         put_messages(out, 2, self.scope_profiles.as_slice(), indexes)?;
         put_text(out, 3, &self.schema_url)?;
         Ok(())
+    }
+}
+
+impl<'a> Wire<'a> for ResourceProfiles<'a> {
+    fn none(alloc: Global) -> ResourceProfiles<'a> {
+        ResourceProfiles {
+            resource: Resource::none(alloc),
+            scope_profiles: List::begin(alloc),
+            schema_url: TextRef::empty(),
+        }
+    }
+
+    fn take(&mut self, alloc: Global, field: &Field<'a>) -> Result<(), ReadFault> {
+        match field.number {
+            1 => take_message(&mut self.resource, alloc, field),
+            2 => add_message(&mut self.scope_profiles, alloc, field),
+            3 => take_text(&mut self.schema_url, field),
+            _ => Ok(()),
+        }
     }
 }

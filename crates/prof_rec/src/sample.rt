@@ -6,7 +6,8 @@ ghost use Rattle.prof_rec.specs.Views.{sample_view};
 
 use crate::SampleRef;
 use pb_wire::{
-    Blob, Field, List, NewIndexes, NoMemory, ReadFault, Wire, add_fixed, add_number, take_number,
+    Blob, Field, List, NewIndexes, NoMemory, ReadFault, Rows, Wire, add_fixed, add_number,
+    take_number,
 };
 use std::alloc::Global;
 
@@ -25,7 +26,7 @@ pub struct Sample {
     pub timestamps_unix_nano: List<u64>,
 }
 
-impl Wire for Sample {
+impl Rows for Sample {
     ghost shape = { sample };
 
     ghost view = { sample_view };
@@ -34,6 +35,16 @@ impl Wire for Sample {
 
     ghost lawful = { refl };
 
+    fn rows_len<I: NewIndexes>(&self, indexes: &I) -> u64 {
+        self.parts().rows_len(indexes)
+    }
+
+    fn put_rows<I: NewIndexes>(&self, indexes: &I, out: &mut Blob) -> Result<(), NoMemory> {
+        self.parts().put_rows(indexes, out)
+    }
+}
+
+impl<'a> Wire<'a> for Sample {
     fn none(alloc: Global) -> Sample {
         Sample {
             stack_index: 0,
@@ -44,7 +55,7 @@ impl Wire for Sample {
         }
     }
 
-    fn take(&mut self, _alloc: Global, field: &Field<'_>) -> Result<(), ReadFault> {
+    fn take(&mut self, _alloc: Global, field: &Field<'a>) -> Result<(), ReadFault> {
         match field.number {
             1 => take_number(&mut self.stack_index, field),
             2 => add_number(&mut self.values, field),
@@ -53,14 +64,6 @@ impl Wire for Sample {
             5 => add_fixed(&mut self.timestamps_unix_nano, field),
             _ => Ok(()),
         }
-    }
-
-    fn rows_len<I: NewIndexes>(&self, indexes: &I) -> u64 {
-        self.parts().rows_len(indexes)
-    }
-
-    fn put_rows<I: NewIndexes>(&self, indexes: &I, out: &mut Blob) -> Result<(), NoMemory> {
-        self.parts().put_rows(indexes, out)
     }
 }
 

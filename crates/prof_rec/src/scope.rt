@@ -5,21 +5,21 @@ ghost use Rattle.prof_rec.specs.Views.{scope_view};
 
 use any_value::KeyValue;
 use pb_wire::{
-    Blob, Field, List, NewIndexes, NoMemory, ReadFault, Text, Wire, add_message, messages_len,
-    number_len, put_messages, put_number, put_text, take_number, take_text, text_len,
+    Blob, Field, List, NewIndexes, NoMemory, ReadFault, Rows, TextRef, Wire, add_message,
+    messages_len, number_len, put_messages, put_number, put_text, take_number, take_text, text_len,
 };
 use std::alloc::Global;
 
 /// The library or component that made the profiles.
 #[derive(Debug, Drop)]
-pub struct Scope {
-    pub name: Text,
-    pub version: Text,
-    pub attributes: List<KeyValue>,
+pub struct Scope<'a> {
+    pub name: TextRef<'a>,
+    pub version: TextRef<'a>,
+    pub attributes: List<KeyValue<'a>>,
     pub dropped_attributes_count: u32,
 }
 
-impl Wire for Scope {
+impl<'a> Rows for Scope<'a> {
     ghost shape = { scope };
 
     ghost view = { scope_view };
@@ -27,25 +27,6 @@ impl Wire for Scope {
     ghost message = { tt };
 
     ghost lawful = { refl };
-
-    fn none(alloc: Global) -> Scope {
-        Scope {
-            name: Text::begin(alloc),
-            version: Text::begin(alloc),
-            attributes: List::begin(alloc),
-            dropped_attributes_count: 0,
-        }
-    }
-
-    fn take(&mut self, alloc: Global, field: &Field<'_>) -> Result<(), ReadFault> {
-        match field.number {
-            1 => take_text(&mut self.name, alloc, field),
-            2 => take_text(&mut self.version, alloc, field),
-            3 => add_message(&mut self.attributes, alloc, field),
-            4 => take_number(&mut self.dropped_attributes_count, field),
-            _ => Ok(()),
-        }
-    }
 
     fn rows_len<I: NewIndexes>(&self, indexes: &I) -> u64 {
         text_len(1, &self.name)
@@ -61,5 +42,26 @@ impl Wire for Scope {
         put_messages(out, 3, self.attributes.as_slice(), indexes)?;
         put_number(out, 4, self.dropped_attributes_count)?;
         Ok(())
+    }
+}
+
+impl<'a> Wire<'a> for Scope<'a> {
+    fn none(alloc: Global) -> Scope<'a> {
+        Scope {
+            name: TextRef::empty(),
+            version: TextRef::empty(),
+            attributes: List::begin(alloc),
+            dropped_attributes_count: 0,
+        }
+    }
+
+    fn take(&mut self, alloc: Global, field: &Field<'a>) -> Result<(), ReadFault> {
+        match field.number {
+            1 => take_text(&mut self.name, field),
+            2 => take_text(&mut self.version, field),
+            3 => add_message(&mut self.attributes, alloc, field),
+            4 => take_number(&mut self.dropped_attributes_count, field),
+            _ => Ok(()),
+        }
     }
 }

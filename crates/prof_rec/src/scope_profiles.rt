@@ -5,21 +5,22 @@ ghost use Rattle.prof_rec.specs.Views.{scope_profiles_view};
 
 use crate::{Profile, Scope};
 use pb_wire::{
-    Blob, Field, List, NewIndexes, NoMemory, ReadFault, Text, Wire, add_message, message_len,
-    messages_len, put_message, put_messages, put_text, take_message, take_text, text_len,
+    Blob, Field, List, NewIndexes, NoMemory, ReadFault, Rows, TextRef, Wire, add_message,
+    message_len, messages_len, put_message, put_messages, put_text, take_message, take_text,
+    text_len,
 };
 use std::alloc::Global;
 
 /// The profiles of one scope.
 #[derive(Debug, Drop)]
-pub struct ScopeProfiles {
-    pub scope: Scope,
-    pub profiles: List<Profile>,
+pub struct ScopeProfiles<'a> {
+    pub scope: Scope<'a>,
+    pub profiles: List<Profile<'a>>,
     /// The URL of the schema that the scope and its profiles follow.
-    pub schema_url: Text,
+    pub schema_url: TextRef<'a>,
 }
 
-impl Wire for ScopeProfiles {
+impl<'a> Rows for ScopeProfiles<'a> {
     ghost shape = { scope_profiles };
 
     ghost view = { scope_profiles_view };
@@ -27,23 +28,6 @@ impl Wire for ScopeProfiles {
     ghost message = { tt };
 
     ghost lawful = { refl };
-
-    fn none(alloc: Global) -> ScopeProfiles {
-        ScopeProfiles {
-            scope: Scope::none(alloc),
-            profiles: List::begin(alloc),
-            schema_url: Text::begin(alloc),
-        }
-    }
-
-    fn take(&mut self, alloc: Global, field: &Field<'_>) -> Result<(), ReadFault> {
-        match field.number {
-            1 => take_message(&mut self.scope, alloc, field),
-            2 => add_message(&mut self.profiles, alloc, field),
-            3 => take_text(&mut self.schema_url, alloc, field),
-            _ => Ok(()),
-        }
-    }
 
     fn rows_len<I: NewIndexes>(&self, indexes: &I) -> u64 {
         message_len(1, &self.scope, indexes)
@@ -57,5 +41,24 @@ impl Wire for ScopeProfiles {
         put_messages(out, 2, self.profiles.as_slice(), indexes)?;
         put_text(out, 3, &self.schema_url)?;
         Ok(())
+    }
+}
+
+impl<'a> Wire<'a> for ScopeProfiles<'a> {
+    fn none(alloc: Global) -> ScopeProfiles<'a> {
+        ScopeProfiles {
+            scope: Scope::none(alloc),
+            profiles: List::begin(alloc),
+            schema_url: TextRef::empty(),
+        }
+    }
+
+    fn take(&mut self, alloc: Global, field: &Field<'a>) -> Result<(), ReadFault> {
+        match field.number {
+            1 => take_message(&mut self.scope, alloc, field),
+            2 => add_message(&mut self.profiles, alloc, field),
+            3 => take_text(&mut self.schema_url, field),
+            _ => Ok(()),
+        }
     }
 }

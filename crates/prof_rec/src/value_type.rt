@@ -4,7 +4,7 @@ ghost use Rattle.schema.specs.Messages.{value_type};
 ghost use Rattle.prof_rec.specs.Views.{value_type_view};
 
 use pb_wire::{
-    Blob, Field, NewIndexes, NoMemory, ReadFault, TableKind, Wire, index_len, put_index,
+    Blob, Field, NewIndexes, NoMemory, ReadFault, Rows, TableKind, Wire, index_len, put_index,
     take_number,
 };
 use std::alloc::Global;
@@ -18,7 +18,7 @@ pub struct ValueType {
     pub unit_strindex: i32,
 }
 
-impl Wire for ValueType {
+impl Rows for ValueType {
     ghost shape = { value_type };
 
     ghost view = { value_type_view };
@@ -26,21 +26,6 @@ impl Wire for ValueType {
     ghost message = { tt };
 
     ghost lawful = { refl };
-
-    fn none(_alloc: Global) -> ValueType {
-        ValueType {
-            type_strindex: 0,
-            unit_strindex: 0,
-        }
-    }
-
-    fn take(&mut self, _alloc: Global, field: &Field<'_>) -> Result<(), ReadFault> {
-        match field.number {
-            1 => take_number(&mut self.type_strindex, field),
-            2 => take_number(&mut self.unit_strindex, field),
-            _ => Ok(()),
-        }
-    }
 
     fn rows_len<I: NewIndexes>(&self, indexes: &I) -> u64 {
         index_len(1, TableKind::String, &self.type_strindex, indexes)
@@ -51,5 +36,22 @@ impl Wire for ValueType {
         put_index(out, 1, TableKind::String, &self.type_strindex, indexes)?;
         put_index(out, 2, TableKind::String, &self.unit_strindex, indexes)?;
         Ok(())
+    }
+}
+
+impl<'a> Wire<'a> for ValueType {
+    fn none(_alloc: Global) -> ValueType {
+        ValueType {
+            type_strindex: 0,
+            unit_strindex: 0,
+        }
+    }
+
+    fn take(&mut self, _alloc: Global, field: &Field<'a>) -> Result<(), ReadFault> {
+        match field.number {
+            1 => take_number(&mut self.type_strindex, field),
+            2 => take_number(&mut self.unit_strindex, field),
+            _ => Ok(()),
+        }
     }
 }

@@ -1,5 +1,5 @@
 -- Pieces that are short enough that what is read of them can be written.
-use Rattle.std.specs.Prelude.{ℕ, ◌^◌, ◌<◌, List, length}
+use Rattle.std.specs.Prelude.{◌^◌, ◌<◌, List, length}
 use Rattle.schema.specs.Each.{Each}
 use Rattle.schema.specs.Parts.{Part, joined}
 

@@ -44,7 +44,7 @@ fn told_of_profiles(alloc: Global, name: &str, payloads: &Payloads) -> Result<St
 }
 
 // The canonical bytes of the record that the payloads are, or their first fault.
-fn rewritten<T: Wire>(alloc: Global, payloads: &Payloads) -> Result<String, CaseFault> {
+fn rewritten<'a, T: Wire<'a>>(alloc: Global, payloads: &'a Payloads) -> Result<String, CaseFault> {
     let pieces = payloads.pieces(alloc)?;
     match T::read(alloc, &pieces) {
         Ok(record) => written(alloc, &record),
@@ -53,7 +53,7 @@ fn rewritten<T: Wire>(alloc: Global, payloads: &Payloads) -> Result<String, Case
 }
 
 // The canonical bytes of a record, and the length that it reports.
-fn written<T: Wire>(alloc: Global, message: &T) -> Result<String, CaseFault>
+fn written<'a, T: Wire<'a>>(alloc: Global, message: &T) -> Result<String, CaseFault>
     requires { length (spell T.shape (T.view message.now)) < 2 ^ 63 }
 {
     let mut out = Blob::begin(alloc);

@@ -7,12 +7,12 @@ use std::alloc::Global;
 
 /// Two rows.
 #[derive(Debug, Drop)]
-pub struct Leaf {
+pub struct Leaf<'a> {
     pub count: i32,
-    pub name: pb_wire::Text,
+    pub name: TextRef<'a>,
 }
 
-impl Wire for Leaf {
+impl<'a> Rows for Leaf<'a> {
     ghost shape = { One 1 (Number I32) (One 2 Text End) };
 
     ghost view = { λ m. (m.count, (m.name, tt)) };
@@ -20,21 +20,6 @@ impl Wire for Leaf {
     ghost message = { tt };
 
     ghost lawful = { refl };
-
-    fn none(alloc: Global) -> Leaf {
-        Leaf {
-            count: 0,
-            name: pb_wire::Text::begin(alloc),
-        }
-    }
-
-    fn take(&mut self, alloc: Global, field: &Field<'_>) -> Result<(), ReadFault> {
-        match field.number {
-            1 => take_number(&mut self.count, field),
-            2 => take_text(&mut self.name, alloc, field),
-            _ => Ok(()),
-        }
-    }
 
     fn rows_len<I: NewIndexes>(&self, _indexes: &I) -> u64 {
         number_len(1, self.count) + text_len(2, &self.name)
@@ -47,22 +32,39 @@ impl Wire for Leaf {
     }
 }
 
+impl<'a> Wire<'a> for Leaf<'a> {
+    fn none(_alloc: Global) -> Leaf<'a> {
+        Leaf {
+            count: 0,
+            name: TextRef::empty(),
+        }
+    }
+
+    fn take(&mut self, _alloc: Global, field: &Field<'a>) -> Result<(), ReadFault> {
+        match field.number {
+            1 => take_number(&mut self.count, field),
+            2 => take_text(&mut self.name, field),
+            _ => Ok(()),
+        }
+    }
+}
+
 /// A row of each kind.
 #[derive(Debug, Drop)]
-pub struct Tree {
-    pub leaf: Leaf,
-    pub leaves: List<Leaf>,
+pub struct Tree<'a> {
+    pub leaf: Leaf<'a>,
+    pub leaves: List<Leaf<'a>>,
     pub time: u64,
     pub duration: u64,
     pub period: i64,
-    pub id: Blob,
+    pub id: BytesRef<'a>,
     pub times: List<u64>,
-    pub payloads: List<Blob>,
+    pub payloads: List<BytesRef<'a>>,
     pub indices: List<i32>,
-    pub names: List<pb_wire::Text>,
+    pub names: List<TextRef<'a>>,
 }
 
-impl Wire for Tree {
+impl<'a> Rows for Tree<'a> {
     ghost shape = { One 1 (One 1 (Number I32) (One 2 Text End)) (Many 2 (One 1 (Number I32) (One 2 Text End)) (One 3 Fixed (One 4 (Number U64) (One 6 (Number I64)
         (One 7 Bytes (Many 8 Fixed (Many 10 Bytes (Many 11 (Number I32) (Many 12 Text End))))))))) };
 
@@ -86,37 +88,6 @@ impl Wire for Tree {
     ghost message = { tt };
 
     ghost lawful = { refl };
-
-    fn none(alloc: Global) -> Tree {
-        Tree {
-            leaf: Leaf::none(alloc),
-            leaves: List::begin(alloc),
-            time: 0,
-            duration: 0,
-            period: 0,
-            id: Blob::begin(alloc),
-            times: List::begin(alloc),
-            payloads: List::begin(alloc),
-            indices: List::begin(alloc),
-            names: List::begin(alloc),
-        }
-    }
-
-    fn take(&mut self, alloc: Global, field: &Field<'_>) -> Result<(), ReadFault> {
-        match field.number {
-            1 => take_message(&mut self.leaf, alloc, field),
-            2 => add_message(&mut self.leaves, alloc, field),
-            3 => take_fixed(&mut self.time, field),
-            4 => take_number(&mut self.duration, field),
-            6 => take_number(&mut self.period, field),
-            7 => take_bytes(&mut self.id, alloc, field),
-            8 => add_fixed(&mut self.times, field),
-            10 => add_bytes(&mut self.payloads, alloc, field),
-            11 => add_number(&mut self.indices, field),
-            12 => add_text(&mut self.names, alloc, field),
-            _ => Ok(()),
-        }
-    }
 
     fn rows_len<I: NewIndexes>(&self, indexes: &I) -> u64 {
         message_len(1, &self.leaf, indexes)
@@ -144,5 +115,38 @@ impl Wire for Tree {
         put_numbers(out, 11, self.indices.as_slice())?;
         put_text_list(out, 12, self.names.as_slice())?;
         Ok(())
+    }
+}
+
+impl<'a> Wire<'a> for Tree<'a> {
+    fn none(alloc: Global) -> Tree<'a> {
+        Tree {
+            leaf: Leaf::none(alloc),
+            leaves: List::begin(alloc),
+            time: 0,
+            duration: 0,
+            period: 0,
+            id: BytesRef::empty(),
+            times: List::begin(alloc),
+            payloads: List::begin(alloc),
+            indices: List::begin(alloc),
+            names: List::begin(alloc),
+        }
+    }
+
+    fn take(&mut self, alloc: Global, field: &Field<'a>) -> Result<(), ReadFault> {
+        match field.number {
+            1 => take_message(&mut self.leaf, alloc, field),
+            2 => add_message(&mut self.leaves, alloc, field),
+            3 => take_fixed(&mut self.time, field),
+            4 => take_number(&mut self.duration, field),
+            6 => take_number(&mut self.period, field),
+            7 => take_bytes(&mut self.id, field),
+            8 => add_fixed(&mut self.times, field),
+            10 => add_bytes(&mut self.payloads, field),
+            11 => add_number(&mut self.indices, field),
+            12 => add_text(&mut self.names, field),
+            _ => Ok(()),
+        }
     }
 }

@@ -22,7 +22,7 @@ pub fn told(alloc: Global, payloads: &Payloads) -> Result<String, CaseFault> {
     }
 }
 
-fn written(alloc: Global, value: &Value) -> Result<String, CaseFault>
+fn written(alloc: Global, value: &Value<'_>) -> Result<String, CaseFault>
     requires { length (any_text (any_view value.now)) < 2 ^ 62 }
 {
     let mut payload = Blob::begin(alloc);
@@ -33,7 +33,7 @@ fn written(alloc: Global, value: &Value) -> Result<String, CaseFault>
     Ok(format!(in alloc; "{payload}, {len} bytes; row {row}")?)
 }
 
-fn row_told(alloc: Global, value: &Value) -> Result<String, CaseFault>
+fn row_told(alloc: Global, value: &Value<'_>) -> Result<String, CaseFault>
     requires { length (any_text (any_view value.now)) < 2 ^ 62 }
 {
     let mut row = Blob::begin(alloc);
@@ -58,21 +58,26 @@ pub fn copy_told(alloc: Global, payloads: &Payloads) -> Result<String, CaseFault
 /// Whether the values of two payloads are equal.
 pub fn equal_told(alloc: Global, data: &str) -> Result<String, CaseFault> {
     let (one, other) = data.split_once(' ').ok_or(CaseFault::Missing)?;
+    let one = Payload::of(alloc, one)?;
+    let other = Payload::of(alloc, other)?;
+    equal(alloc, &one, &other)
+}
+
+fn equal<'a>(alloc: Global, one: &'a Payload, other: &'a Payload) -> Result<String, CaseFault> {
     let one = value_of(alloc, one)?;
     let other = value_of(alloc, other)?;
     compared(alloc, &one, &other)
 }
 
 // The value of one payload.
-fn value_of(alloc: Global, word: &str) -> Result<Value, CaseFault> {
-    let payload = Payload::of(alloc, word)?;
+fn value_of<'a>(alloc: Global, payload: &'a Payload) -> Result<Value<'a>, CaseFault> {
     let mut pieces = Pieces::begin(alloc);
     pieces.add(payload.piece())?;
     Ok(decode_value(alloc, &pieces, 1)?)
 }
 
 // Whether two values are equal, and if so whether their hashes are.
-fn compared(alloc: Global, one: &Value, other: &Value) -> Result<String, CaseFault> {
+fn compared<'a>(alloc: Global, one: &Value<'a>, other: &Value<'a>) -> Result<String, CaseFault> {
     let text = if !is_same_value(one, other) {
         "different"
     } else if hash_of(one) != hash_of(other) {
@@ -83,7 +88,7 @@ fn compared(alloc: Global, one: &Value, other: &Value) -> Result<String, CaseFau
     Ok(String::from_str(alloc, text)?)
 }
 
-fn hash_of(value: &Value) -> u64 {
+fn hash_of(value: &Value<'_>) -> u64 {
     let mut state = DefaultHasher::new();
     value.hash(&mut state);
     state.finish()

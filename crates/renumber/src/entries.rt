@@ -1,6 +1,9 @@
 //! The entries of tables: what they name is met before they are.
 ghost use Rattle.std.specs.Prelude.{◌≡◌};
+ghost use Rattle.schema.specs.Messages.{attribute, link};
 ghost use Rattle.schema.specs.Shape.{Attributes, Functions, Links, Locations, Mappings, Stacks};
+ghost use Rattle.meaning.specs.Tables.{entry};
+ghost use Rattle.pb_wire.specs.TableKinds.{table_of};
 
 use crate::meets::{Entry, Meets};
 use crate::walk::Walk;
@@ -12,10 +15,10 @@ use std::sync::ledger::Ledger;
 use tables::Steps;
 
 impl Meets for Function {
-    fn meet<S: BuildHasher + Drop, L: Ledger>(
+    fn meet<'w, 'd, S: BuildHasher + Drop, L: Ledger>(
         &self,
         alloc: Global,
-        walk: &mut Walk<'_, S>,
+        walk: &mut Walk<'w, 'd, S>,
         steps: &mut Steps<L>,
     ) -> Result<(), NoMemory> {
         walk.string(alloc, &self.name_strindex, steps)?;
@@ -25,23 +28,23 @@ impl Meets for Function {
     }
 }
 
-impl Entry for Function {
+impl<'a> Entry<'a> for Function {
     ghost table = { Functions };
 
     fn kind() -> TableKind {
         TableKind::Function
     }
 
-    fn entries(dictionary: &Dictionary) -> &[Function] {
+    fn entries<'w>(dictionary: &'w Dictionary<'a>) -> &'w [Function] {
         dictionary.function_table.as_slice()
     }
 }
 
 impl Meets for Line {
-    fn meet<S: BuildHasher + Drop, L: Ledger>(
+    fn meet<'w, 'd, S: BuildHasher + Drop, L: Ledger>(
         &self,
         alloc: Global,
-        walk: &mut Walk<'_, S>,
+        walk: &mut Walk<'w, 'd, S>,
         steps: &mut Steps<L>,
     ) -> Result<(), NoMemory> {
         walk.index::<Function, L>(alloc, &self.function_index, steps)?;
@@ -49,11 +52,11 @@ impl Meets for Line {
     }
 }
 
-impl Meets for Attr {
-    fn meet<S: BuildHasher + Drop, L: Ledger>(
+impl<'a> Meets for Attr<'a> {
+    fn meet<'w, 'd, S: BuildHasher + Drop, L: Ledger>(
         &self,
         alloc: Global,
-        walk: &mut Walk<'_, S>,
+        walk: &mut Walk<'w, 'd, S>,
         steps: &mut Steps<L>,
     ) -> Result<(), NoMemory> {
         walk.string(alloc, &self.key_strindex, steps)?;
@@ -62,74 +65,78 @@ impl Meets for Attr {
     }
 }
 
-impl Entry for Attr {
+impl<'a> Entry<'a> for Attr<'a> {
     ghost table = { Attributes };
 
-    fn kind() -> TableKind {
+    // In an impl with a lifetime the clauses of the trait are written out.
+    fn kind() -> TableKind
+        ensures kind { table_of result ≡ Attributes }
+        ensures shape { attribute ≡ entry Attributes }
+    {
         TableKind::Attribute
     }
 
-    fn entries(dictionary: &Dictionary) -> &[Attr] {
+    fn entries<'w>(dictionary: &'w Dictionary<'a>) -> &'w [Attr<'a>] {
         dictionary.attribute_table.as_slice()
     }
 }
 
 impl Meets for Mapping {
-    fn meet<S: BuildHasher + Drop, L: Ledger>(
+    fn meet<'w, 'd, S: BuildHasher + Drop, L: Ledger>(
         &self,
         alloc: Global,
-        walk: &mut Walk<'_, S>,
+        walk: &mut Walk<'w, 'd, S>,
         steps: &mut Steps<L>,
     ) -> Result<(), NoMemory> {
         walk.string(alloc, &self.filename_strindex, steps)?;
-        walk.indexes::<Attr, L>(alloc, self.attribute_indices.as_slice(), steps)?;
+        walk.indexes::<Attr<'d>, L>(alloc, self.attribute_indices.as_slice(), steps)?;
         Ok(())
     }
 }
 
-impl Entry for Mapping {
+impl<'a> Entry<'a> for Mapping {
     ghost table = { Mappings };
 
     fn kind() -> TableKind {
         TableKind::Mapping
     }
 
-    fn entries(dictionary: &Dictionary) -> &[Mapping] {
+    fn entries<'w>(dictionary: &'w Dictionary<'a>) -> &'w [Mapping] {
         dictionary.mapping_table.as_slice()
     }
 }
 
 impl Meets for Location {
-    fn meet<S: BuildHasher + Drop, L: Ledger>(
+    fn meet<'w, 'd, S: BuildHasher + Drop, L: Ledger>(
         &self,
         alloc: Global,
-        walk: &mut Walk<'_, S>,
+        walk: &mut Walk<'w, 'd, S>,
         steps: &mut Steps<L>,
     ) -> Result<(), NoMemory> {
         walk.index::<Mapping, L>(alloc, &self.mapping_index, steps)?;
         walk.each(alloc, self.lines.as_slice(), steps)?;
-        walk.indexes::<Attr, L>(alloc, self.attribute_indices.as_slice(), steps)?;
+        walk.indexes::<Attr<'d>, L>(alloc, self.attribute_indices.as_slice(), steps)?;
         Ok(())
     }
 }
 
-impl Entry for Location {
+impl<'a> Entry<'a> for Location {
     ghost table = { Locations };
 
     fn kind() -> TableKind {
         TableKind::Location
     }
 
-    fn entries(dictionary: &Dictionary) -> &[Location] {
+    fn entries<'w>(dictionary: &'w Dictionary<'a>) -> &'w [Location] {
         dictionary.location_table.as_slice()
     }
 }
 
 impl Meets for Stack {
-    fn meet<S: BuildHasher + Drop, L: Ledger>(
+    fn meet<'w, 'd, S: BuildHasher + Drop, L: Ledger>(
         &self,
         alloc: Global,
-        walk: &mut Walk<'_, S>,
+        walk: &mut Walk<'w, 'd, S>,
         steps: &mut Steps<L>,
     ) -> Result<(), NoMemory> {
         walk.indexes::<Location, L>(alloc, self.location_indices.as_slice(), steps)?;
@@ -137,37 +144,41 @@ impl Meets for Stack {
     }
 }
 
-impl Entry for Stack {
+impl<'a> Entry<'a> for Stack {
     ghost table = { Stacks };
 
     fn kind() -> TableKind {
         TableKind::Stack
     }
 
-    fn entries(dictionary: &Dictionary) -> &[Stack] {
+    fn entries<'w>(dictionary: &'w Dictionary<'a>) -> &'w [Stack] {
         dictionary.stack_table.as_slice()
     }
 }
 
-impl Meets for Link {
-    fn meet<S: BuildHasher + Drop, L: Ledger>(
+impl<'a> Meets for Link<'a> {
+    fn meet<'w, 'd, S: BuildHasher + Drop, L: Ledger>(
         &self,
         _alloc: Global,
-        _walk: &mut Walk<'_, S>,
+        _walk: &mut Walk<'w, 'd, S>,
         _steps: &mut Steps<L>,
     ) -> Result<(), NoMemory> {
         Ok(())
     }
 }
 
-impl Entry for Link {
+impl<'a> Entry<'a> for Link<'a> {
     ghost table = { Links };
 
-    fn kind() -> TableKind {
+    // In an impl with a lifetime the clauses of the trait are written out.
+    fn kind() -> TableKind
+        ensures kind { table_of result ≡ Links }
+        ensures shape { link ≡ entry Links }
+    {
         TableKind::Link
     }
 
-    fn entries(dictionary: &Dictionary) -> &[Link] {
+    fn entries<'w>(dictionary: &'w Dictionary<'a>) -> &'w [Link<'a>] {
         dictionary.link_table.as_slice()
     }
 }

@@ -10,23 +10,23 @@ ghost use Rattle.renumber.specs.Walk.{Moves, Walked, missed};
 
 use crate::walk::Walk;
 use dict_rec::Dictionary;
-use pb_wire::{NoMemory, TableKind, Wire};
+use pb_wire::{NoMemory, Rows, TableKind};
 use std::alloc::Global;
 use std::hash::BuildHasher;
 use std::sync::ledger::Ledger;
 use tables::Steps;
 
 /// A record whose indexes can be met. An implementation gives one line for each row that holds some, in the order of the rows.
-pub trait Meets: Wire {
+pub trait Meets: Rows {
     /// Makes each index of the record known. Entries that are new go into the tables after those that they name.
     ///
     /// # Errors
     ///
     /// Out of memory.
-    fn meet<S: BuildHasher + Drop, L: Ledger>(
+    fn meet<'w, 'd, S: BuildHasher + Drop, L: Ledger>(
         &self,
         alloc: Global,
-        walk: &mut Walk<'_, S>,
+        walk: &mut Walk<'w, 'd, S>,
         steps: &mut Steps<L>,
     ) -> Result<(), NoMemory>
         requires { IsPart Self.shape walk.old.source (Self.view self.now) }
@@ -35,7 +35,7 @@ pub trait Meets: Wire {
 }
 
 /// A record that is the entry of a table.
-pub trait Entry: Meets {
+pub trait Entry<'a>: Meets {
     ghost table: { Table };
 
     /// The kind of its table.
@@ -44,7 +44,7 @@ pub trait Entry: Meets {
         ensures shape { Self.shape ≡ entry table };
 
     /// The entries of a dictionary.
-    fn entries(dictionary: &Dictionary) -> &[Self]
+    fn entries<'w>(dictionary: &'w Dictionary<'a>) -> &'w [Self]
         ensures all { old_entries dictionary.now table ≡ map (tree Self.shape) (map Self.view result.now) }
         ensures parts { IsSource dictionary.now → Each (IsPart Self.shape dictionary.now) (map Self.view result.now) };
 }

@@ -49,7 +49,7 @@ impl Memo {
     /// # Errors
     ///
     /// Out of memory.
-    pub fn none(alloc: Global, dictionary: &Dictionary) -> Result<Memo, NoMemory>
+    pub fn none(alloc: Global, dictionary: &Dictionary<'_>) -> Result<Memo, NoMemory>
         ensures none { IfOk result (λ m. (T : Table) → at m T ≡ replicate (length (old_entries dictionary.now T)) None) }
         ensures seven { IfOk result (λ m. length m ≡ 7) }
         ensures unmet { IfOk result (λ m. unmet_of m ≡ entry_count (old_entries dictionary.now)) }

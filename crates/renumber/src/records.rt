@@ -12,10 +12,10 @@ use std::sync::ledger::Ledger;
 use tables::Steps;
 
 impl Meets for ValueType {
-    fn meet<S: BuildHasher + Drop, L: Ledger>(
+    fn meet<'w, 'd, S: BuildHasher + Drop, L: Ledger>(
         &self,
         alloc: Global,
-        walk: &mut Walk<'_, S>,
+        walk: &mut Walk<'w, 'd, S>,
         steps: &mut Steps<L>,
     ) -> Result<(), NoMemory> {
         walk.string(alloc, &self.type_strindex, steps)?;
@@ -25,10 +25,10 @@ impl Meets for ValueType {
 }
 
 impl Meets for Sample {
-    fn meet<S: BuildHasher + Drop, L: Ledger>(
+    fn meet<'w, 'd, S: BuildHasher + Drop, L: Ledger>(
         &self,
         alloc: Global,
-        walk: &mut Walk<'_, S>,
+        walk: &mut Walk<'w, 'd, S>,
         steps: &mut Steps<L>,
     ) -> Result<(), NoMemory> {
         walk.sample(
@@ -42,26 +42,26 @@ impl Meets for Sample {
     }
 }
 
-impl Meets for Profile {
-    fn meet<S: BuildHasher + Drop, L: Ledger>(
+impl<'a> Meets for Profile<'a> {
+    fn meet<'w, 'd, S: BuildHasher + Drop, L: Ledger>(
         &self,
         alloc: Global,
-        walk: &mut Walk<'_, S>,
+        walk: &mut Walk<'w, 'd, S>,
         steps: &mut Steps<L>,
     ) -> Result<(), NoMemory> {
         self.sample_type.meet(alloc, walk, steps)?;
         walk.samples(alloc, &self.samples, steps)?;
         self.period_type.meet(alloc, walk, steps)?;
-        walk.indexes::<Attr, L>(alloc, self.attribute_indices.as_slice(), steps)?;
+        walk.indexes::<Attr<'d>, L>(alloc, self.attribute_indices.as_slice(), steps)?;
         Ok(())
     }
 }
 
-impl Meets for ScopeProfiles {
-    fn meet<S: BuildHasher + Drop, L: Ledger>(
+impl<'a> Meets for ScopeProfiles<'a> {
+    fn meet<'w, 'd, S: BuildHasher + Drop, L: Ledger>(
         &self,
         alloc: Global,
-        walk: &mut Walk<'_, S>,
+        walk: &mut Walk<'w, 'd, S>,
         steps: &mut Steps<L>,
     ) -> Result<(), NoMemory> {
         walk.each(alloc, self.profiles.as_slice(), steps)?;
@@ -69,11 +69,11 @@ impl Meets for ScopeProfiles {
     }
 }
 
-impl Meets for ResourceProfiles {
-    fn meet<S: BuildHasher + Drop, L: Ledger>(
+impl<'a> Meets for ResourceProfiles<'a> {
+    fn meet<'w, 'd, S: BuildHasher + Drop, L: Ledger>(
         &self,
         alloc: Global,
-        walk: &mut Walk<'_, S>,
+        walk: &mut Walk<'w, 'd, S>,
         steps: &mut Steps<L>,
     ) -> Result<(), NoMemory> {
         walk.each(alloc, self.scope_profiles.as_slice(), steps)?;

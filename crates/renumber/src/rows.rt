@@ -17,13 +17,13 @@ use std::hash::BuildHasher;
 use std::sync::ledger::Ledger;
 use tables::Steps;
 
-impl<'a, S: BuildHasher + Drop> Walk<'a, S> {
+impl<'w, 'a, S: BuildHasher + Drop> Walk<'w, 'a, S> {
     /// Makes the indexes of a repeated field known.
     ///
     /// # Errors
     ///
     /// Out of memory.
-    pub fn indexes<E: Entry, L: Ledger>(
+    pub fn indexes<E: Entry<'a> + 'w, L: Ledger>(
         &mut self,
         alloc: Global,
         indexes: &[i32],
@@ -114,8 +114,8 @@ impl<'a, S: BuildHasher + Drop> Walk<'a, S> {
         ensures walked { OnOk result ((values : List ℤ) (times : List ℕ) → Walked sample self.old self.new (stack_index.now, (values, (map (λ i. i) attribute_indices.now, (link_index.now, (times, tt)))))) }
     {
         self.index::<Stack, L>(alloc, stack_index, steps)?;
-        self.indexes::<Attr, L>(alloc, attribute_indices, steps)?;
-        self.index::<Link, L>(alloc, link_index, steps)?;
+        self.indexes::<Attr<'a>, L>(alloc, attribute_indices, steps)?;
+        self.index::<Link<'a>, L>(alloc, link_index, steps)?;
         Ok(())
     }
 }

@@ -8,6 +8,7 @@ ghost use Rattle.meaning.specs.Memo.{Knows, index_in};
 ghost use Rattle.meaning.specs.Tables.{entry};
 ghost use Rattle.meaning.specs.Tree.{Integer, tree};
 ghost use Rattle.pb_wire.specs.TableKinds.{table_of};
+ghost use Rattle.tables.specs.KeyBytes.{bytes_of};
 ghost use Rattle.key_tables.specs.Keys.{at};
 ghost use Rattle.renumber.specs.Entries.{IsKeyOf, IsPart, IsSource, index_into, old_entries};
 ghost use Rattle.renumber.specs.Walk.{IsOpen, IsReady, IsUnmet, Moves, Walked, missed};
@@ -16,23 +17,23 @@ use crate::meets::{Entry, Meets};
 use crate::memo::Memo;
 use dict_rec::Dictionary;
 use key_tables::KeyTables;
-use pb_wire::{Blob, NewIndexes, NoMemory, TableKind, Wire};
+use pb_wire::{Blob, NewIndexes, NoMemory, Rows, TableKind};
 use std::alloc::Global;
 use std::hash::BuildHasher;
 use std::marker::Model;
 use std::sync::ledger::Ledger;
-use tables::{EntryKey, Steps};
+use tables::{KeyBytes, Steps};
 
 /// The dictionary of a message, the tables of a new one, and the memo. It gives old indexes their new ones: an index that was
 /// not met becomes 0.
 #[derive(Drop)]
-pub struct Walk<'a, S: BuildHasher> {
-    source: &'a Dictionary,
+pub struct Walk<'w, 'a, S: BuildHasher> {
+    source: &'w Dictionary<'a>,
     tables: KeyTables<S>,
     memo: Memo,
 }
 
-impl<'a, S: BuildHasher> Model for Walk<'a, S> {
+impl<'w, 'a, S: BuildHasher> Model for Walk<'w, 'a, S> {
     ghost use Rattle.renumber.specs.Entries.{IsSource};
     ghost use Rattle.renumber.specs.Walk.{IsReady, State};
     ghost use Rattle.std.specs.Coded.{codes};
@@ -47,7 +48,7 @@ impl<'a, S: BuildHasher> Model for Walk<'a, S> {
     ghost invariant = { λ w. IsSource w.source.now × IsReady w.source.now w.tables w.memo };
 }
 
-impl<'a, S: BuildHasher + Drop> NewIndexes for Walk<'a, S> {
+impl<'w, 'a, S: BuildHasher + Drop> NewIndexes for Walk<'w, 'a, S> {
     ghost to = { λ w. index_in (at w.memo) };
 
     #[inline(always)]
@@ -58,7 +59,7 @@ impl<'a, S: BuildHasher + Drop> NewIndexes for Walk<'a, S> {
 
 // The spelling of a record with new indexes.
 #[tactic(auto, using(schema_laws::proofs::Onto::onto_len, schema_laws::proofs::Onto::onto))]
-fn text_with<T: Wire, I: NewIndexes>(
+fn text_with<T: Rows, I: NewIndexes>(
     alloc: Global,
     message: &T,
     indexes: &I,
@@ -71,9 +72,9 @@ fn text_with<T: Wire, I: NewIndexes>(
     Ok(text)
 }
 
-impl<'a, S: BuildHasher + Drop> Walk<'a, S> {
+impl<'w, 'a, S: BuildHasher + Drop> Walk<'w, 'a, S> {
     /// A walk over a message with this dictionary. It takes no memory.
-    pub fn begin(source: &'a Dictionary, tables: KeyTables<S>, memo: Memo) -> Walk<'a, S>
+    pub fn begin(source: &'w Dictionary<'a>, tables: KeyTables<S>, memo: Memo) -> Walk<'w, 'a, S>
         requires source { IsSource source.now }
         requires ready { IsReady source.now tables memo }
         ensures source { result.source ≡ source.now }
@@ -110,7 +111,7 @@ impl<'a, S: BuildHasher + Drop> Walk<'a, S> {
 
     // The dictionary of the message.
     #[inline(always)]
-    fn source(&self) -> &'a Dictionary
+    fn source(&self) -> &'w Dictionary<'a>
         ensures same { result.now ≡ self.now.source }
         ensures source { IsSource result.now }
     {
@@ -137,23 +138,24 @@ impl<'a, S: BuildHasher + Drop> Walk<'a, S> {
     // Enters a key for the entry at a place.
     fn enter_key<L: Ledger>(
         &mut self,
+        alloc: Global,
         kind: TableKind,
         place: usize,
-        key: Blob,
+        key: KeyBytes<'_>,
         steps: &mut Steps<L>,
     ) -> Result<(), NoMemory>
         requires place { IsOpen (table_of kind) self.old place }
-        requires key { IsKeyOf (table_of kind) self.old.source self.old.keys place key }
+        requires key { IsKeyOf (table_of kind) self.old.source self.old.keys place (bytes_of key) }
         ensures moves { Moves (index_into (table_of kind)) (missed result) self.old self.new steps.old steps.new }
         ensures walked { OnOk result (Walked (index_into (table_of kind)) self.old self.new (pos place)) }
     {
-        let new = self.tables.intern(kind, EntryKey::from_blob(key), steps)?;
+        let new = self.tables.intern(alloc, kind, key, steps)?;
         self.memo.note(kind, place, new);
         Ok(())
     }
 
     // Enters an entry, whose indexes are known, that is at a place.
-    fn enter<E: Entry, L: Ledger>(
+    fn enter<E: Entry<'a> + 'w, L: Ledger>(
         &mut self,
         alloc: Global,
         found: &E,
@@ -170,8 +172,8 @@ impl<'a, S: BuildHasher + Drop> Walk<'a, S> {
         let kind = E::kind();
         // A field of its own opens the invariant here.
         let _source = self.source;
-        let key = text_with(alloc, found, &*self)?;
-        self.enter_key(kind, place, key, steps)
+        let text = text_with(alloc, found, &*self)?;
+        self.enter_key(alloc, kind, place, KeyBytes::Owned(text), steps)
     }
 
     /// Makes an index into the string table known.
@@ -193,8 +195,8 @@ impl<'a, S: BuildHasher + Drop> Walk<'a, S> {
             None => Ok(()),
             Some(place) => {
                 let found = &self.source().string_table.as_slice()[place];
-                let key = Blob::copy_of(alloc, found.as_bytes())?;
-                self.enter_key(TableKind::String, place, key, steps)
+                let key = KeyBytes::Borrowed(found.as_bytes());
+                self.enter_key(alloc, TableKind::String, place, key, steps)
             }
         }
     }
@@ -204,7 +206,7 @@ impl<'a, S: BuildHasher + Drop> Walk<'a, S> {
     /// # Errors
     ///
     /// Out of memory.
-    pub fn index<E: Entry, L: Ledger>(
+    pub fn index<E: Entry<'a> + 'w, L: Ledger>(
         &mut self,
         alloc: Global,
         index: &i32,

@@ -2,6 +2,10 @@
 -- ArrayValue, KeyValueList and KeyValue in it).
 use Rattle.std.specs.Prelude.{ℕ, ℤ, Bool, List, [], ◌∷◌}
 
+-- the bytes of a key
+abbrev pub Key : Type 0
+Key = List ℕ
+
 mutual
   -- At most one member is set; `Empty` is the value where none is. A text and bytes are their bytes, and a double is its eight
   -- bytes as they are stored.
@@ -23,11 +27,11 @@ mutual
   -- the elements of a KeyValueList, each with its key
   pub data KeyValues : Type 0 where
     NoPairs : KeyValues
-    AddPair : List ℕ → AnyValue → KeyValues → KeyValues
+    AddPair : Key → AnyValue → KeyValues → KeyValues
 
 -- a key and its value
 abbrev pub KeyValue : Type 0
-KeyValue = List ℕ × AnyValue
+KeyValue = Key × AnyValue
 
 -- ---- the same as lists
 

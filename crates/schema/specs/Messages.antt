@@ -8,10 +8,14 @@ use Rattle.schema.specs.Shape.{Shape, Value, Number, Fixed, Bytes, Text, Any, In
 abbrev pub string : Shape
 string = Index Strings Text
 
+-- the key of a KeyValue
+abbrev pub key : Shape
+key = Text
+
 -- KeyValue, whose value is an AnyValue of this depth: 1 key, 2 value. The fields of an AnyValue are in `AnyMember`, and those of
 -- the messages in it in `AnyMerge`.
 abbrev pub key_value : ℕ → Shape
-key_value depth = One 1 Text (One 2 (Any depth) End)
+key_value depth = One 1 key (One 2 (Any depth) End)
 
 -- Attr (KeyValueAndUnit): 1 key_strindex, 2 value, 3 unit_strindex
 abbrev pub attribute : Shape
@@ -54,21 +58,36 @@ sample = One 1 (Index Stacks stack) (Many 2 (Number I64) (Many 3 (Index Attribut
 abbrev pub profile : Shape
 profile = One 1 value_type (Many 2 sample (One 3 Fixed (One 4 (Number U64) (One 5 value_type (One 6 (Number I64) (One 7 Bytes (One 8 (Number U32) (One 9 Text (One 10 Bytes (Many 11 (Index Attributes attribute) End))))))))))
 
+-- The records, over the shape that the attributes of their resources and scopes have.
+
 -- Scope: 1 name, 2 version, 3 attributes, 4 dropped_attributes_count
-abbrev pub scope : Shape
-scope = One 1 Text (One 2 Text (Many 3 (key_value 1) (One 4 (Number U32) End)))
+abbrev pub scope_with : Shape → Shape
+scope_with attr = One 1 Text (One 2 Text (Many 3 attr (One 4 (Number U32) End)))
 
 -- ScopeProfiles: 1 scope, 2 profiles, 3 schema_url
-abbrev pub scope_profiles : Shape
-scope_profiles = One 1 scope (Many 2 profile (One 3 Text End))
+abbrev pub scope_profiles_with : Shape → Shape
+scope_profiles_with attr = One 1 (scope_with attr) (Many 2 profile (One 3 Text End))
 
 -- Resource: 1 attributes, 2 dropped_attributes_count, 3 opaque, whose elements are carried unread
-abbrev pub resource : Shape
-resource = Many 1 (key_value 1) (One 2 (Number U32) (Many 3 Bytes End))
+abbrev pub resource_with : Shape → Shape
+resource_with attr = Many 1 attr (One 2 (Number U32) (Many 3 Bytes End))
 
 -- ResourceProfiles: 1 resource, 2 scope_profiles, 3 schema_url
+abbrev pub resource_profiles_with : Shape → Shape
+resource_profiles_with attr = One 1 (resource_with attr) (Many 2 (scope_profiles_with attr) (One 3 Text End))
+
+-- the same where an attribute is a KeyValue
+abbrev pub scope : Shape
+scope = scope_with (key_value 1)
+
+abbrev pub scope_profiles : Shape
+scope_profiles = scope_profiles_with (key_value 1)
+
+abbrev pub resource : Shape
+resource = resource_with (key_value 1)
+
 abbrev pub resource_profiles : Shape
-resource_profiles = One 1 resource (Many 2 scope_profiles (One 3 Text End))
+resource_profiles = resource_profiles_with (key_value 1)
 
 -- the entries of a table
 abbrev pub entry : Table → Shape
@@ -99,8 +118,11 @@ entries_in d Stacks = d.1.1.1.1.1.1.0
 abbrev pub message : Shape → Shape
 message records = Many 1 records (One 2 dictionary End)
 
+abbrev pub envelope_with : Shape → Shape
+envelope_with attr = message (resource_profiles_with attr)
+
 abbrev pub envelope : Shape
-envelope = message resource_profiles
+envelope = envelope_with (key_value 1)
 
 -- Partial success of an export: 1 rejected_profiles, 2 error_message
 abbrev pub partial_success : Shape

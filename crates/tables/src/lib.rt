@@ -5,7 +5,9 @@
 mod entry_key;
 mod interner;
 mod key;
+mod key_bytes;
 mod mark;
+mod query;
 mod searched_table;
 mod steps;
 mod table;
@@ -13,6 +15,7 @@ mod table;
 pub use entry_key::EntryKey;
 pub use interner::Interner;
 pub use key::Key;
+pub use key_bytes::KeyBytes;
 pub use mark::Mark;
 pub use searched_table::SearchedTable;
 pub use steps::Steps;

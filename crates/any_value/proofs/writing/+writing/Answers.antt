@@ -1,7 +1,7 @@
 use Rattle.std.proofs.Common.{subst, ◌++◌, ℕ, List, length, map, sym, ap, ◌∙◌, arith}
 use Rattle.std.specs.List.{flat_map}
 use Rattle.std.proofs.lemmas.List.{take_all}
-use Rattle.pb_wire.proofs.Rows.{next_within}
+use Rattle.pb_wire.proofs.RowTexts.{next_within}
 use Rattle.schema.specs.Each.{Each}
 use Rattle.schema.specs.Typed.{IsTypedAny}
 use Rattle.any_value.specs.Views.{IsPairTyped, any_view, pair_view}

@@ -3,9 +3,9 @@ use Rattle.std.specs.List.{flat_map}
 use Rattle.schema.specs.Shape.{I32}
 use Rattle.schema.specs.Texts.{varint, number_to}
 use Rattle.std.proofs.lemmas.List.{take_all}
-use Rattle.pb_wire.proofs.Rows.{next_within}
+use Rattle.pb_wire.proofs.RowTexts.{next_within}
 use Rattle.pb_wire.specs.TableKinds.{table_of}
-use Rattle.pb_wire.proofs.Rows.{indexes_moved, read_or}
+use Rattle.pb_wire.proofs.RowTexts.{indexes_moved, read_or}
 use Rattle.pb_wire.proofs.index_rows.packed_len.Goals as goal
 
 pub overflow_add-len : goal.overflow_add-len

@@ -4,7 +4,7 @@ use Rattle.std.proofs.lemmas.List.{take_all}
 use Rattle.schema.specs.Shape.{I32}
 use Rattle.schema.specs.Texts.{varint, number_to}
 use Rattle.pb_wire.specs.TableKinds.{table_of}
-use Rattle.pb_wire.proofs.Rows.{indexes_moved}
+use Rattle.pb_wire.proofs.RowTexts.{indexes_moved}
 use Rattle.pb_wire.proofs.index_rows.push_packed.Goals as goal
 
 pub returns-clause-ok : goal.returns-clause-ok

@@ -1,7 +1,7 @@
 use Rattle.std.proofs.Common.{arith}
 use Rattle.schema.specs.Texts.{long_field}
 use Rattle.schema_laws.proofs.Onto.{long_len}
-use Rattle.pb_wire.proofs.Rows.{long_len_at, next_length, next_within}
+use Rattle.pb_wire.proofs.RowTexts.{long_len_at, next_length, next_within}
 use Rattle.pb_wire.proofs.lengths.bytes_list_len.Goals as goal
 
 pub long_len-len-requires-clause-room : goal.long_len-len-requires-clause-room

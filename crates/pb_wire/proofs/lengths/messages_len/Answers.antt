@@ -4,23 +4,23 @@ use Rattle.schema.specs.Moved.{moved}
 use Rattle.schema.specs.Texts.{long_field}
 use Rattle.schema.specs.Spell.{spell}
 use Rattle.std.proofs.lemmas.List.{take_all}
-use Rattle.pb_wire.proofs.Rows.{items_moved, long_len_at, moved_within, next_length, next_within}
+use Rattle.pb_wire.proofs.RowTexts.{items_moved, long_len_at, moved_within, next_length, next_within}
 use Rattle.schema_laws.proofs.Onto.{onto_len}
 use Rattle.pb_wire.proofs.lengths.messages_len.Goals as goal
 
 -- the length of the element's field is within that of the row
 pub rows_len-requires : goal.rows_len-requires
 rows_len-requires g c =
-    omega (arith, moved_within g.T.Wire.shape (moved (g.I.NewIndexes.to c.args.indexes.now) g.T.Wire.shape) g.T.Wire.view c.args.number c.args.items.now c.loop-item.item-index c.item-item.result (omega arith) c.item-item.is)
+    omega (arith, moved_within g.T.Rows.shape (moved (g.I.NewIndexes.to c.args.indexes.now) g.T.Rows.shape) g.T.Rows.view c.args.number c.args.items.now c.loop-item.item-index c.item-item.result (omega arith) c.item-item.is)
 
 pub long_len-len-requires-clause-room : goal.long_len-len-requires-clause-room
 long_len-len-requires-clause-room g c =
-    omega (arith, moved_within g.T.Wire.shape (moved (g.I.NewIndexes.to c.args.indexes.now) g.T.Wire.shape) g.T.Wire.view c.args.number c.args.items.now c.loop-item.item-index c.item-item.result (omega arith) c.item-item.is)
+    omega (arith, moved_within g.T.Rows.shape (moved (g.I.NewIndexes.to c.args.indexes.now) g.T.Rows.shape) g.T.Rows.view c.args.number c.args.items.now c.loop-item.item-index c.item-item.result (omega arith) c.item-item.is)
 
 pub overflow_add-len : goal.overflow_add-len
 overflow_add-len g c =
-    let shape = g.T.Wire.shape in
-    let view = g.T.Wire.view in
+    let shape = g.T.Rows.shape in
+    let view = g.T.Rows.view in
     let move = moved (g.I.NewIndexes.to c.args.indexes.now) shape in
     let text = λ (x : _). long_field c.args.number (spell shape (move (view x))) in
     let items = c.args.items.now in
@@ -35,8 +35,8 @@ overflow_add-len g c =
 
 pub loop-item-preserved : goal.loop-item-preserved
 loop-item-preserved g c =
-    let shape = g.T.Wire.shape in
-    let view = g.T.Wire.view in
+    let shape = g.T.Rows.shape in
+    let view = g.T.Rows.view in
     let move = moved (g.I.NewIndexes.to c.args.indexes.now) shape in
     let text = λ (x : _). long_field c.args.number (spell shape (move (view x))) in
     let items = c.args.items.now in
@@ -46,8 +46,8 @@ loop-item-preserved g c =
 
 pub returns : goal.returns
 returns g c =
-    let shape = g.T.Wire.shape in
-    let view = g.T.Wire.view in
+    let shape = g.T.Rows.shape in
+    let view = g.T.Rows.view in
     let move = moved (g.I.NewIndexes.to c.args.indexes.now) shape in
     let text = λ (x : _). long_field c.args.number (spell shape (move (view x))) in
     let items = c.args.items.now in

@@ -2,7 +2,7 @@ use Rattle.std.proofs.Common.{length, ap, arith}
 use Rattle.std.specs.List.{flat_map}
 use Rattle.schema.specs.Texts.{varint, number_to}
 use Rattle.std.proofs.lemmas.List.{take_all}
-use Rattle.pb_wire.proofs.Rows.{numbers_of, next_within}
+use Rattle.pb_wire.proofs.RowTexts.{numbers_of, next_within}
 use Rattle.pb_wire.proofs.lengths.packed_len.Goals as goal
 
 pub overflow_add-len : goal.overflow_add-len

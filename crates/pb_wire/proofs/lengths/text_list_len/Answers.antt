@@ -1,6 +1,6 @@
 use Rattle.std.proofs.Common.{length, ap, arith}
 use Rattle.schema.specs.Texts.{long_field}
-use Rattle.pb_wire.proofs.Rows.{long_len_at, next_length, next_within}
+use Rattle.pb_wire.proofs.RowTexts.{long_len_at, next_length, next_within}
 use Rattle.pb_wire.proofs.lengths.text_list_len.Goals as goal
 
 pub overflow_add-len : goal.overflow_add-len

@@ -3,7 +3,7 @@ use Rattle.std.specs.List.{flat_map}
 use Rattle.std.proofs.lemmas.List.{take_all}
 use Rattle.schema.specs.Each.{Each}
 use Rattle.schema.specs.Texts.{FitsNumber, varint, number_to}
-use Rattle.pb_wire.proofs.Rows.{numbers_of}
+use Rattle.pb_wire.proofs.RowTexts.{numbers_of}
 use Rattle.pb_wire.proofs.Types.{each_seen}
 use Rattle.pb_wire.proofs.put_rows.push_packed.Goals as goal
 

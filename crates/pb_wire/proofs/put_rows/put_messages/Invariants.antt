@@ -11,5 +11,5 @@ use Rattle.pb_wire.proofs.put_rows.put_messages.Given as goal
 -- the messages so far follow what was there, and are typed
 abbrev pub invariant-loop-item : goal.invariant-loop-item
 invariant-loop-item g l =
-    (l.out ≡ l.initial.out ++ flat_map (λ x. long_field l.number (spell g.T.Wire.shape (moved (g.I.NewIndexes.to l.indexes) g.T.Wire.shape (g.T.Wire.view x)))) (take l.item-index l.items)) × IsPrefix l.initial.out l.out
-    × Each (λ x. IsTyped g.T.Wire.shape (g.T.Wire.view x)) (take l.item-index l.items)
+    (l.out ≡ l.initial.out ++ flat_map (λ x. long_field l.number (spell g.T.Rows.shape (moved (g.I.NewIndexes.to l.indexes) g.T.Rows.shape (g.T.Rows.view x)))) (take l.item-index l.items)) × IsPrefix l.initial.out l.out
+    × Each (λ x. IsTyped g.T.Rows.shape (g.T.Rows.view x)) (take l.item-index l.items)

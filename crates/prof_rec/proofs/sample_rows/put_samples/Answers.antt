@@ -10,7 +10,7 @@ use Rattle.schema.specs.Texts.{long_field}
 use Rattle.schema.specs.Spell.{spell}
 use Rattle.schema.specs.Typed.{IsTyped}
 use Rattle.schema.specs.Prefix.{IsPrefix}
-use Rattle.pb_wire.proofs.Rows.{items_moved, moved_within, next_text}
+use Rattle.pb_wire.proofs.RowTexts.{items_moved, moved_within, next_text}
 use Rattle.pb_wire.proofs.Types.{each_next, each_seen}
 use Rattle.prof_rec.specs.SampleRefs.{sample_of}
 use Rattle.prof_rec.specs.Views.{sample_view}
@@ -21,12 +21,6 @@ begins : (old new more : List ℕ) → new ≡ old ++ more → IsPrefix old new
 begins old new more e = e ∙ ap (λ (t : List ℕ). old ++ t) (sym (ap (drop (length old)) e ∙ drop-append_seam old more))
 
 -- the length of the sample's field is within that of the row
-pub rows_len-requires : goal.rows_len-requires
-rows_len-requires g c =
-    let x = sample_of c.at-item.result in
-    let is : x ≡ get_or c.args.samples.now c.loop-place.place x = sym (get_or_from_slice_get c.args.samples.now c.loop-place.place x x c.at-item.ensures) in
-    omega (arith, moved_within sample (moved (g.I.NewIndexes.to c.args.indexes.now) sample) sample_view c.args.number c.args.samples.now c.loop-place.place x (slice_get_within c.args.samples.now c.loop-place.place x c.at-item.ensures) is)
-
 pub put_one-requires-clause-room : goal.put_one-requires-clause-room
 put_one-requires-clause-room g c =
     let x = sample_of c.at-item.result in

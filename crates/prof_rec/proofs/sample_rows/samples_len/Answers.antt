@@ -7,7 +7,7 @@ use Rattle.schema.specs.Moved.{moved}
 use Rattle.schema.specs.Texts.{long_field}
 use Rattle.schema.specs.Spell.{spell}
 use Rattle.schema_laws.proofs.Onto.{onto_len}
-use Rattle.pb_wire.proofs.Rows.{items_moved, long_len_at, moved_within, next_length, next_within}
+use Rattle.pb_wire.proofs.RowTexts.{items_moved, long_len_at, moved_within, next_length, next_within}
 use Rattle.prof_rec.specs.SampleRefs.{sample_of}
 use Rattle.prof_rec.specs.Views.{sample_view}
 use Rattle.prof_rec.proofs.sample_rows.samples_len.Goals as goal

@@ -5,4 +5,4 @@ use Rattle.otlp_msg.proofs.Walks.{Left}
 use Rattle.otlp_msg.proofs.table_lengths.TableLengths.test_entries.Given as goal
 
 abbrev pub invariant-loop-entry : goal.invariant-loop-entry
-invariant-loop-entry g l = Left (λ i x. value_within g.T.Wire.shape (lengths_view l.self) (entry_holder l.table i) (g.T.Wire.view x)) l.entry l.record-items
+invariant-loop-entry g l = Left (λ i x. value_within g.T.Rows.shape (lengths_view l.self) (entry_holder l.table i) (g.T.Rows.view x)) l.entry l.record-items

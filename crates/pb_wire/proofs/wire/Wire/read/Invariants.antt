@@ -6,5 +6,5 @@ use Rattle.pb_wire.proofs.wire.Wire.read.Given as goal
 
 abbrev pub invariant-loop-piece : goal.invariant-loop-piece
 invariant-loop-piece g l =
-    merge_all g.Self.Wire.shape (g.Self.Wire.view l.message) (map part_view (drop l.piece-index l.piece-items))
-    ≡ merge_all g.Self.Wire.shape (empty g.Self.Wire.shape) l.pieces
+    merge_all g.Self.Rows.shape (g.Self.Rows.view l.message) (map part_view (drop l.piece-index l.piece-items))
+    ≡ merge_all g.Self.Rows.shape (empty g.Self.Rows.shape) l.pieces

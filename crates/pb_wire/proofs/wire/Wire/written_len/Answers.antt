@@ -5,7 +5,7 @@ use Rattle.schema_laws.proofs.Onto.{onto_len}
 use Rattle.pb_wire.proofs.wire.Wire.written_len.Goals as goal
 
 pub rows_len-requires : goal.rows_len-requires
-rows_len-requires g c = omega (arith, c.requires, ap (len_onto g.Self.Wire.shape 0) (moved_same g.Self.Wire.shape (g.Self.Wire.view c.args.self.now)), onto_len g.Self.Wire.shape 0 (g.Self.Wire.view c.args.self.now))
+rows_len-requires g c = omega (arith, c.requires, ap (len_onto g.Self.Rows.shape 0) (moved_same g.Self.Rows.shape (g.Self.Rows.view c.args.self.now)), onto_len g.Self.Rows.shape 0 (g.Self.Rows.view c.args.self.now))
 
 pub returns : goal.returns
-returns g c = omega (arith, c.rows_len.ensures, ap (len_onto g.Self.Wire.shape 0) (moved_same g.Self.Wire.shape (g.Self.Wire.view c.args.self.now)), onto_len g.Self.Wire.shape 0 (g.Self.Wire.view c.args.self.now))
+returns g c = omega (arith, c.rows_len.ensures, ap (len_onto g.Self.Rows.shape 0) (moved_same g.Self.Rows.shape (g.Self.Rows.view c.args.self.now)), onto_len g.Self.Rows.shape 0 (g.Self.Rows.view c.args.self.now))

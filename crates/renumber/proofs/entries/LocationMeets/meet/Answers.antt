@@ -12,7 +12,7 @@ each-requires g c = rw c.as_slice.ensures (parts_still line _ _ (location_view c
 
 pub indexes-requires : goal.indexes-requires
 indexes-requires g c =
-    rw c.as_slice-2.ensures (parts_still (index_into Attributes) _ _ (location_view c.args.self.now).1.1.1.0 (c.in_ok-each.ensures.moves.same ∙ c.in_ok-index.ensures.moves.same) (location_indexes c.args.walk.now.source (location_view c.args.self.now) c.requires))
+    λ k. ((refl, (refl, tt)), rw c.as_slice-2.ensures (parts_still (index_into Attributes) _ _ (location_view c.args.self.now).1.1.1.0 (c.in_ok-each.ensures.moves.same ∙ c.in_ok-index.ensures.moves.same) (location_indexes c.args.walk.now.source (location_view c.args.self.now) c.requires)))
 
 pub returns-clause-walked : goal.returns-clause-walked
 returns-clause-walked g c =

@@ -8,7 +8,7 @@ use Rattle.renumber.proofs.entries.MappingMeets.meet.Goals as goal
 
 pub indexes-requires : goal.indexes-requires
 indexes-requires g c =
-    rw c.as_slice.ensures (parts_still (index_into Attributes) _ _ (mapping_view c.args.self.now).1.1.1.1.0 c.in_ok-string.ensures.moves.same (mapping_indexes c.args.walk.now.source (mapping_view c.args.self.now) c.requires))
+    λ k. ((refl, (refl, tt)), rw c.as_slice.ensures (parts_still (index_into Attributes) _ _ (mapping_view c.args.self.now).1.1.1.1.0 c.in_ok-string.ensures.moves.same (mapping_indexes c.args.walk.now.source (mapping_view c.args.self.now) c.requires)))
 
 pub returns-clause-walked : goal.returns-clause-walked
 returns-clause-walked g c =

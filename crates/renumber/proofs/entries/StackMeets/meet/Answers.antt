@@ -6,7 +6,7 @@ use Rattle.renumber.proofs.Parts.{stack_indexes}
 use Rattle.renumber.proofs.entries.StackMeets.meet.Goals as goal
 
 pub indexes-requires : goal.indexes-requires
-indexes-requires g c = rw c.as_slice.ensures (stack_indexes c.args.walk.now.source (stack_view c.args.self.now) c.requires)
+indexes-requires g c = λ k. ((refl, (refl, tt)), rw c.as_slice.ensures (stack_indexes c.args.walk.now.source (stack_view c.args.self.now) c.requires))
 
 pub returns-clause-walked : goal.returns-clause-walked
 returns-clause-walked g c =

@@ -21,8 +21,11 @@ meet-requires-2 g c =
 
 pub indexes-requires : goal.indexes-requires
 indexes-requires g c =
-    rw c.as_slice.ensures (parts_still (index_into Attributes) _ _ (profile_view c.args.self.now).1.1.1.1.1.1.1.1.1.1.0
-    (c.in_ok-meet-2.ensures.moves.same ∙ c.in_ok-samples.ensures.moves.same ∙ c.in_ok-meet.ensures.moves.same) (profile_indexes c.args.walk.now.source (profile_view c.args.self.now) c.requires))
+    λ k. (
+      (refl, (refl, tt)),
+      rw c.as_slice.ensures (parts_still (index_into Attributes) _ _ (profile_view c.args.self.now).1.1.1.1.1.1.1.1.1.1.0
+          (c.in_ok-meet-2.ensures.moves.same ∙ c.in_ok-samples.ensures.moves.same ∙ c.in_ok-meet.ensures.moves.same) (profile_indexes c.args.walk.now.source (profile_view c.args.self.now) c.requires)),
+    )
 
 pub returns-clause-walked : goal.returns-clause-walked
 returns-clause-walked g c =

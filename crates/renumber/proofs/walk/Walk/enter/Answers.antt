@@ -8,14 +8,14 @@ pub text_with-requires : goal.text_with-requires
 text_with-requires g c =
     let w : State = c.args.self.now in
     let h : IsSource w.source × IsReady w.source w.keys w.memo = rw (← c.self.view_is) c.self.invariant in
-    part_short g.E.Wire.shape w.source w.keys w.memo (g.E.Wire.view c.args.found.now) h.0 h.1 c.requires.part
+    part_short g.E.Rows.shape w.source w.keys w.memo (g.E.Rows.view c.args.found.now) h.0 h.1 c.requires.part
 
 pub enter_key-requires-clause-key : goal.enter_key-requires-clause-key
 enter_key-requires-clause-key g c =
     let w : State = c.args.self.now in
     let T = g.E.Entry.table in
     let h : IsSource w.source × IsReady w.source w.keys w.memo = rw (← c.self.view_is) c.self.invariant in
-    subst (λ U. IsKeyOf U w.source w.keys c.args.place c.in_ok-key.key) (sym c.kind-kind.ensures.kind)
-    (subst (λ b. IsKeyOf T w.source w.keys c.args.place b) (sym c.in_ok-key.ensures)
-    (found_key T g.E.Wire.shape c.kind-kind.ensures.shape g.met.E.Wire.message g.met.E.Wire.lawful w.source w.keys w.memo (g.E.Wire.view c.args.found.now) c.args.place h.0 h.1
+    subst (λ U. IsKeyOf U w.source w.keys c.args.place c.in_ok-text.text) (sym c.kind-kind.ensures.kind)
+    (subst (λ b. IsKeyOf T w.source w.keys c.args.place b) (sym c.in_ok-text.ensures)
+    (found_key T g.E.Rows.shape c.kind-kind.ensures.shape g.met.E.Rows.message g.met.E.Rows.lawful w.source w.keys w.memo (g.E.Rows.view c.args.found.now) c.args.place h.0 h.1
     c.requires.part c.requires.here c.requires.known))

@@ -1,7 +1,6 @@
-use Rattle.std.proofs.Common.{subst, refl}
-use Rattle.tables.specs.Keys.{Interned}
+use Rattle.std.proofs.Common.{refl}
+use Rattle.tables.specs.KeyBytes.{bytes_of}
 use Rattle.pb_wire.specs.TableKinds.{table_of}
-use Rattle.key_tables.specs.Keys.{at}
 use Rattle.renumber.specs.Walk.{State}
 use Rattle.renumber.proofs.Entering.{entered_moves, entered_ready, entered_walk, ready_still}
 use Rattle.renumber.proofs.walk.Walk.enter_key.Goals as goal
@@ -16,10 +15,9 @@ invariant_of-self-2 g c =
     let a : State = record { source = c.self.inside.source.now; keys = c.self.inside.tables; memo = c.self.inside.memo } in
     let b : State = record { source = c.self.inside.source.now; keys = c.intern.new.self; memo = c.note.new.self } in
     let key = rw (← c.self.view_is) at c.requires.key in
-    let place = rw (← c.self.view_is) at c.requires.place in
-    let i = subst (λ k. Interned (at c.self.inside.tables T) k (at c.intern.new.self T) c.in_ok-new.new) c.from_blob.ensures c.in_ok-new.ensures.interned in (
+    let place = rw (← c.self.view_is) at c.requires.place in (
       c.self.invariant.0,
-      entered_ready a b T c.args.place c.in_ok-new.new c.args.key c.self.invariant.1 place key i c.in_ok-new.ensures.others c.in_ok-new.ensures.few c.in_ok-new.ensures.seven
+      entered_ready a b T c.args.place c.in_ok-new.new (bytes_of c.args.key) c.self.invariant.1 place key c.in_ok-new.ensures.interned c.in_ok-new.ensures.others c.in_ok-new.ensures.few c.in_ok-new.ensures.seven
           c.note.ensures refl,
     )
 
@@ -30,8 +28,7 @@ returns-clause-moves g c =
     let b : State = record { source = c.self.inside.source.now; keys = c.intern.new.self; memo = c.note.new.self } in
     let key = rw (← c.self.view_is) at c.requires.key in
     let place = rw (← c.self.view_is) at c.requires.place in
-    let i = subst (λ k. Interned (at c.self.inside.tables T) k (at c.intern.new.self T) c.in_ok-new.new) c.from_blob.ensures c.in_ok-new.ensures.interned in
-    rw (← c.self.view_is) (entered_moves a b T c.args.place c.in_ok-new.new c.args.key c.self.invariant.1 place key i c.in_ok-new.ensures.others c.in_ok-new.ensures.few c.in_ok-new.ensures.seven
+    rw (← c.self.view_is) (entered_moves a b T c.args.place c.in_ok-new.new (bytes_of c.args.key) c.self.invariant.1 place key c.in_ok-new.ensures.interned c.in_ok-new.ensures.others c.in_ok-new.ensures.few c.in_ok-new.ensures.seven
     c.note.ensures refl c.args.steps.now c.intern.new.steps c.in_ok-new.ensures.kept c.in_ok-new.ensures.steps)
 
 pub returns-clause-walked : goal.returns-clause-walked
@@ -41,6 +38,5 @@ returns-clause-walked g c =
     let b : State = record { source = c.self.inside.source.now; keys = c.intern.new.self; memo = c.note.new.self } in
     let key = rw (← c.self.view_is) at c.requires.key in
     let place = rw (← c.self.view_is) at c.requires.place in
-    let i = subst (λ k. Interned (at c.self.inside.tables T) k (at c.intern.new.self T) c.in_ok-new.new) c.from_blob.ensures c.in_ok-new.ensures.interned in
-    rw (← c.self.view_is) (entered_walk a b T c.args.place c.in_ok-new.new c.args.key c.self.invariant.1 place key i c.in_ok-new.ensures.others c.in_ok-new.ensures.few c.in_ok-new.ensures.seven
+    rw (← c.self.view_is) (entered_walk a b T c.args.place c.in_ok-new.new (bytes_of c.args.key) c.self.invariant.1 place key c.in_ok-new.ensures.interned c.in_ok-new.ensures.others c.in_ok-new.ensures.few c.in_ok-new.ensures.seven
     c.note.ensures refl)

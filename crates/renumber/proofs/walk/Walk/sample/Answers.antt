@@ -6,10 +6,10 @@ use Rattle.renumber.proofs.Walks.{part_still, parts_still, walked_nothing, walke
 use Rattle.renumber.proofs.walk.Walk.sample.Goals as goal
 
 pub indexes-requires : goal.indexes-requires
-indexes-requires g c = parts_still (index_into Attributes) _ _ (map (λ i. i) c.args.attribute_indices.now) c.in_ok-index.ensures.moves.same c.requires.attributes
+indexes-requires g c = λ k. ((refl, (refl, tt)), parts_still (index_into Attributes) _ _ (map (λ i. i) c.args.attribute_indices.now) c.in_ok-index.ensures.moves.same c.requires.attributes)
 
 pub index-requires-2 : goal.index-requires-2
-index-requires-2 g c = part_still (index_into Links) _ _ c.args.link_index.now (c.in_ok-indexes.ensures.moves.same ∙ c.in_ok-index.ensures.moves.same) c.requires.link
+index-requires-2 g c = λ k. ((refl, (refl, tt)), part_still (index_into Links) _ _ c.args.link_index.now (c.in_ok-indexes.ensures.moves.same ∙ c.in_ok-index.ensures.moves.same) c.requires.link)
 
 pub returns-clause-walked : goal.returns-clause-walked
 returns-clause-walked g c values times =

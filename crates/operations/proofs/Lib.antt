@@ -1,0 +1,14 @@
+pub mod Renumbered
+pub mod Walks
+pub mod Longer
+pub mod Joining
+pub mod Bare
+pub mod Grouped
+pub mod Growing
+pub mod Longest
+pub mod Drafts
+pub mod Heads
+pub mod Apart
+pub mod Repeated
+pub mod PartProfiles
+pub mod Regrouped

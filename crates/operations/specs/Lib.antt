@@ -1,0 +1,6 @@
+pub mod Outlines
+pub mod Seams
+pub mod Flat
+pub mod Cuts
+pub mod Heads
+pub mod Samples

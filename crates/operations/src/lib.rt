@@ -1,0 +1,142 @@
+//! What is done with meanings: they are joined, taken apart into a flat list of profiles, grouped again, and cut into parts of
+//! at most a given size. The definitions are in `specs/`; each law stands on a public function with no body.
+#![tactic(auto)]
+
+ghost use Rattle.std.specs.Prelude.{◌≡◌, ◌≤◌, ◌<◌, ◌⊎◌, ◌↔◌, ℕ, suc, List, [], ◌∷◌, ◌++◌, length, map, take, drop, true, cond};
+ghost use Rattle.std.specs.List.{flat_map};
+ghost use Rattle.schema.specs.Each.{Each};
+ghost use Rattle.schema.specs.Fits.{Fits};
+ghost use Rattle.schema.specs.Messages.{resource_profiles, resource, scope, profile};
+ghost use Rattle.schema.specs.Shape.{Shape, Value};
+ghost use Rattle.meaning.specs.Tree.{Tree, IsOf, value};
+ghost use Rattle.meaning.specs.Tables.{Tables};
+ghost use Rattle.meaning.specs.Canonical.{renumber, values};
+ghost use Rattle.meaning.specs.Message.{message, meaning_of, meaning_text};
+ghost use Rattle.meaning.specs.Renumbering.{IsDeduplicated, WrittenEach, Drafted};
+ghost use Rattle.parts.specs.LastHeads.{last_heads, repeated_parts};
+ghost use Rattle.parts.specs.Records.{holder, record_parts, held, front, back};
+ghost use Rattle.operations.specs.Outlines.{Item, head, holding, outline, item_part};
+ghost use Rattle.operations.specs.Seams.{seam, join, repeated_heads, same_head, joined_scope, joined_resource};
+ghost use Rattle.operations.specs.Flat.{FlatProfile, flat, bare, group, without_empty};
+ghost use Rattle.operations.specs.Cuts.{size_of, first_length, cut, parts};
+ghost use Rattle.operations.specs.Heads.{HeadFits, HeadsFit};
+
+/// The parts of a meaning's records with new indexes are those of its outline, item by item.
+pub fn outlines_give_parts()
+    ensures { (v : Tables) → (ms : List Tree)
+        → record_parts (map (renumber v resource_profiles) ms) ≡ map (item_part resource scope profile v) (outline ms) }
+{}
+
+/// If a meaning's outline goes on from another's, its canonical bytes are at least as many.
+pub fn continued_outlines_are_no_shorter()
+    ensures { (ms : List Tree) → (ns : List Tree) → (more : List Item) → outline ns ≡ outline ms ++ more
+        → length (meaning_text resource_profiles ms) ≤ length (meaning_text resource_profiles ns) }
+{}
+
+/// If either meaning is empty, the seam is the other (`first`, `last`). Otherwise only the two records that meet change: where
+/// their heads are equal they become one (`between`). Joining no meanings gives the empty meaning (`none`), a single one is as it
+/// was (`single`), and one more is joined to those before it (`more`).
+pub fn seams_join_neighbours()
+    ensures first { (b : List Tree) → seam [] b ≡ b }
+    ensures last { (a : List Tree) → seam a [] ≡ a }
+    ensures between { (a : List Tree) → (r : Tree) → (s : Tree) → (b : List Tree)
+        → seam (a ++ r ∷ []) (s ∷ b) ≡ cond (same_head r s) (a ++ joined_resource r s ∷ b) (a ++ r ∷ s ∷ b) }
+    ensures none { let nothing : List Tree = [] in (join [] ≡ nothing) }
+    ensures single { (m : List Tree) → join (m ∷ []) ≡ m }
+    ensures more { (ms : List (List Tree)) → (m : List Tree) → join (ms ++ m ∷ []) ≡ seam (join ms) m }
+{}
+
+/// Two resource records that become one have the head of the first and the scope records of both (`first`, `last`). Where both have
+/// some, only the two that meet change: where their heads are equal they become one (`between`), with the profiles of both
+/// (`profiles`).
+pub fn joined_records_hold_both()
+    ensures resource_head { (r : Tree) → (s : Tree) → head (joined_resource r s) ≡ head r }
+    ensures first { (r : Tree) → (s : Tree) → held r ≡ [] → held (joined_resource r s) ≡ held s }
+    ensures last { (r : Tree) → (s : Tree) → held s ≡ [] → held (joined_resource r s) ≡ held r }
+    ensures between { (r : Tree) → (s : Tree) → (a : List Tree) → (q : Tree) → (t : Tree) → (b : List Tree)
+        → held r ≡ a ++ q ∷ [] → held s ≡ t ∷ b → held (joined_resource r s) ≡ cond (same_head q t) (a ++ joined_scope q t ∷ b) (a ++ q ∷ t ∷ b) }
+    ensures scope_head { (q : Tree) → (t : Tree) → head (joined_scope q t) ≡ head q }
+    ensures profiles { (q : Tree) → (t : Tree) → held (joined_scope q t) ≡ held q ++ held t }
+{}
+
+/// The outline of a seam is that of the one meaning, and then that of the other without the heads that it repeats.
+pub fn seams_go_on()
+    ensures { (a : List Tree) → (b : List Tree) → outline (seam a b) ≡ outline a ++ drop (repeated_heads a b) (outline b) }
+{}
+
+/// The profiles of joined meanings are those of each, in order, with their heads.
+pub fn joined_meanings_have_the_same_profiles()
+    ensures { (ms : List (List Tree)) → map bare (flat (join ms ∷ [])) ≡ flat_map (λ m. map bare (flat (m ∷ []))) ms }
+{}
+
+/// Grouping the flat list of meanings gives back their records, without those that hold no profile (`records`). A record with its
+/// own head that holds what it held is that record (`whole`), so what is left is as it was.
+pub fn grouping_gives_back_records()
+    ensures records { (ms : List (List Tree)) → group (flat ms) ≡ without_empty (flat_map (λ m. m) ms) }
+    ensures whole { (h : Shape) → (k : Shape) → (t : Tree) → IsOf (holder h k) t → holding t (held t) ≡ t }
+{}
+
+/// The canonical bytes of a seam are at least as many as those of its first meaning (`seam`), those of joined meanings at least as
+/// many as with only the first of them joined (`join`), and those of a flat list at least as many as those of a prefix (`prefix`).
+pub fn joining_never_shortens()
+    ensures seam { (a : List Tree) → (b : List Tree) → length (meaning_text resource_profiles a) ≤ length (meaning_text resource_profiles (seam a b)) }
+    ensures join { (ms : List (List Tree)) → (ns : List (List Tree))
+        → length (meaning_text resource_profiles (join ms)) ≤ length (meaning_text resource_profiles (join (ms ++ ns))) }
+    ensures prefix { (l : List FlatProfile) → (more : List FlatProfile) → size_of l ≤ size_of (l ++ more) }
+{}
+
+/// The first part has n profiles if these fit, or are one, and there are no more or one more would not fit (`ends`). If there are
+/// more, one more would not fit (`late`). After the first part comes what is cut of the rest in the same way (`next`). So each part
+/// fits, or is one profile (`fit`). The parts are the whole list, in order (`all`).
+pub fn parts_are_longest()
+    ensures ends { (limit : ℕ) → (l : List FlatProfile) → (n : ℕ) → 0 < n → n ≤ length l → (n ≡ 1) ⊎ (size_of (take n l) ≤ limit)
+        → (n ≡ length l) ⊎ (limit < size_of (take (suc n) l)) → first_length limit l ≡ n }
+    ensures late { (limit : ℕ) → (l : List FlatProfile) → let n = first_length limit l in (n < length l → limit < size_of (take (suc n) l)) }
+    ensures next { (limit : ℕ) → (e : FlatProfile) → (l : List FlatProfile) → let n = first_length limit (e ∷ l) in
+        (cut (length (e ∷ l)) limit (e ∷ l) ≡ take n (e ∷ l) ∷ cut (length (drop n (e ∷ l))) limit (drop n (e ∷ l))) }
+    ensures fit { (limit : ℕ) → (l : List FlatProfile) → Each (λ p. (size_of p ≤ limit) ⊎ (length p ≡ 1)) (cut (length l) limit l) }
+    ensures all { (limit : ℕ) → (l : List FlatProfile) → flat_map (λ p. p) (cut (length l) limit l) ≡ l }
+{}
+
+/// What is written after a draft's records makes a draft of the seam: its parts are those that it had, and the new ones without the
+/// heads that they repeat.
+pub fn drafts_are_joined()
+    ensures { (d : Tables) → (e : Tables) → (ms : List Tree) → (ns : List Tree) → (xs : List Tree) → (ys : List Tree)
+        → Drafted resource_profiles d ms xs → IsDeduplicated e → WrittenEach resource_profiles (values d) (values e) ns ys
+        → (zs : List Tree) × Drafted resource_profiles e (seam ms ns) zs × (record_parts zs ≡ record_parts xs ++ drop (repeated_heads ms ns) (record_parts ys)) }
+{}
+
+/// The heads of what a message means can be written, if the message can (`messages`); and so can those of a seam, if those of the
+/// two meanings can (`seams`).
+pub fn heads_fit()
+    ensures messages { (x : Value (message resource_profiles)) → Fits (message resource_profiles) x → HeadsFit (meaning_of resource_profiles x) }
+    ensures seams { (a : List Tree) → (b : List Tree) → HeadsFit a → HeadsFit b → HeadsFit (seam a b) }
+{}
+
+/// Heads that can be written are equal exactly where their two texts are (`resources`, `scopes`). A record that can be written has
+/// such a head (`records`).
+pub fn head_bytes_tell_heads_apart()
+    ensures resources { (r : Tree) → (s : Tree) → HeadFits resource r → HeadFits resource s
+        → (same_head r s ≡ true) ↔ ((front resource r ≡ front resource s) × (back r ≡ back s)) }
+    ensures scopes { (r : Tree) → (s : Tree) → HeadFits scope r → HeadFits scope s
+        → (same_head r s ≡ true) ↔ ((front scope r ≡ front scope s) × (back r ≡ back s)) }
+    ensures records { (r : Tree) → IsOf resource_profiles r → Fits resource_profiles (value resource_profiles r) → HeadFits resource r }
+{}
+
+/// The texts of the last heads of the one meaning tell how many heads of the other are left out (`repeated`). So what a draft's
+/// parts gain depends on texts alone (`drafts`).
+pub fn seams_are_found_by_texts()
+    ensures repeated { (v : Tables) → (w : Tables) → (a : List Tree) → (b : List Tree) → HeadsFit a → HeadsFit b
+        → repeated_heads a b ≡ repeated_parts (last_heads (record_parts (map (renumber v resource_profiles) a))) (record_parts (map (renumber w resource_profiles) b)) }
+    ensures drafts { (d : Tables) → (e : Tables) → (ms : List Tree) → (ns : List Tree) → (xs : List Tree) → (ys : List Tree)
+        → Drafted resource_profiles d ms xs → IsDeduplicated e → WrittenEach resource_profiles (values d) (values e) ns ys → HeadsFit ms → HeadsFit ns
+        → (zs : List Tree) × Drafted resource_profiles e (seam ms ns) zs
+        × (record_parts zs ≡ record_parts xs ++ drop (repeated_parts (last_heads (record_parts xs)) (record_parts ys)) (record_parts ys)) }
+{}
+
+/// The profiles of the parts are those of the meanings that are cut, in order, with their heads (`all`). The profiles of several
+/// meanings are those of each (`each`).
+pub fn parts_have_the_same_profiles()
+    ensures all { (limit : ℕ) → (ms : List (List Tree)) → map bare (flat (parts limit ms)) ≡ map bare (flat ms) }
+    ensures each { (ms : List (List Tree)) → map bare (flat ms) ≡ flat_map (λ m. map bare (flat (m ∷ []))) ms }
+{}
