@@ -13,6 +13,10 @@ A message depends on its kind and size alone, since each is drawn from a fixed s
   samples with one or two attributes and a time each, of which a tenth has a link. It has one size, 6.9 MiB.
 
 A string has 10 to 79 bytes.
+
+`write_run` writes several messages of a kind, such as agents of one service send, which share strings and stacks. Each table of
+such a message begins with the same entries in all of them, about half of it, and they refer to each other alone. The others are
+drawn for one message, and refer to both. The records are drawn for one message, but resources and scopes have the same names.
 """
 
 import random
@@ -118,11 +122,12 @@ def samples_plan(size):
 
 
 class Table:
-    """A table of the dictionary. `entries` are those after the zero entry, and indexes are drawn from the first of them."""
+    """A table of the dictionary. `entries` are those after the zero entry, which `common` begins; indexes are drawn from the first
+    of them."""
 
-    def __init__(self, draw, plan, field, count, entry):
+    def __init__(self, draw, plan, field, count, entry, common=()):
         self.draw, self.field = draw, field
-        self.entries = with_duplicates(draw, [entry(number) for number in range(count)], plan.duplicates)
+        self.entries = [*common, *with_duplicates(draw, [entry(number) for number in range(count)], plan.duplicates)]
         self.used = max(1, int(len(self.entries) * plan.used))
 
     def index(self):
@@ -136,11 +141,11 @@ class Table:
 
 
 class Tables:
-    """The tables of a message with samples."""
+    """The tables of a message with samples. They begin with the entries of `common`, where that is given."""
 
-    def __init__(self, draw, plan):
+    def __init__(self, draw, plan, common=None):
         def table(field, count, entry):
-            return Table(draw, plan, field, count, entry)
+            return Table(draw, plan, field, count, entry, common.entries[field] if common else ())
 
         self.plan = plan
         self.strings = table(5, plan.strings, lambda number: distinct_text(draw, number))
@@ -150,6 +155,8 @@ class Tables:
         self.functions = table(3, plan.functions, lambda _: self.function(draw))
         self.locations = table(2, plan.locations, lambda _: self.location(draw))
         self.stacks = table(7, plan.stacks, lambda _: packed_field(1, self.locations.indexes(plan.stack_locations)))
+        self.all = (self.mappings, self.locations, self.functions, self.links, self.strings, self.attributes, self.stacks)
+        self.entries = {table.field: table.entries for table in self.all}
 
     def attribute(self, draw, number):
         value = long_field(1, b"%x" % draw.getrandbits(60)) if number % 2 else number_field(3, draw.getrandbits(30))
@@ -169,8 +176,7 @@ class Tables:
         return head + repeated_field(3, lines)
 
     def dictionary(self):
-        tables = (self.mappings, self.locations, self.functions, self.links, self.strings, self.attributes, self.stacks)
-        return long_field(2, b"".join(table.written() for table in tables))
+        return long_field(2, b"".join(table.written() for table in self.all))
 
 
 def sample(draw, tables):
@@ -222,10 +228,13 @@ def resource_record(service, scopes):
     return long_field(1, long_field(1, long_field(1, name)) + repeated_field(2, scopes))
 
 
-def samples(size):
+def run_draws(size, count):
+    """What is drawn from for each of so many messages of this size."""
+    return (random.Random(f"{size} {number}") for number in range(count))
+
+
+def sampled_message(draw, tables, size):
     """Resource records of two scopes, with four profiles each and 250 samples in each profile."""
-    draw = random.Random(size)
-    tables = Tables(draw, samples_plan(size))
     dictionary = tables.dictionary()
     records, total = [], len(dictionary)
     while total < size:
@@ -233,6 +242,18 @@ def samples(size):
         records.append(resource_record(b"service-%d" % len(records), scopes))
         total += len(records[-1])
     return b"".join(records) + dictionary
+
+
+def samples(size):
+    draw = random.Random(size)
+    return sampled_message(draw, Tables(draw, samples_plan(size)), size)
+
+
+def samples_run(size, count):
+    half = samples_plan(size / 2)
+    common = Tables(random.Random(size), half)
+    for draw in run_draws(size, count):
+        yield sampled_message(draw, Tables(draw, half, common), size)
 
 
 def service(_size):
@@ -280,20 +301,31 @@ def strings_of_size(draw, size):
     return texts
 
 
-def types(size, strings, attributes=0.0):
-    """The share `attributes` of the bytes are those of resources and scopes, and of the others the share `strings` is the string
-    table. The rest are profiles, a thousand in a scope."""
-    draw = random.Random(size)
-    records = attribute_records(draw, size * attributes)
-    size = int(size * (1 - attributes))
-    texts = strings_of_size(draw, size * strings)
+def typed_message(draw, texts, size):
+    """Profiles of about `size` bytes, a thousand in a scope, over these strings, of which the last quarter is unused."""
     used = max(1, len(texts) * 3 // 4)
     profiles, total = [], 0
-    while total < size * (1 - strings):
+    while total < size:
         profiles.append(long_field(2, profile(draw, lambda: draw.randrange(used), [], [])))
         total += len(profiles[-1])
     scopes = [b"".join(profiles[start : start + 1000]) for start in range(0, len(profiles), 1000)]
-    return records + long_field(1, repeated_field(2, scopes)) + long_field(2, repeated_field(5, [b"", *texts]))
+    return long_field(1, repeated_field(2, scopes)) + long_field(2, repeated_field(5, [b"", *texts]))
+
+
+def types(size, strings, attributes=0.0):
+    """The share `attributes` of the bytes are those of resources and scopes, and of the others the share `strings` is the string
+    table. The rest are profiles."""
+    draw = random.Random(size)
+    records = attribute_records(draw, size * attributes)
+    size = int(size * (1 - attributes))
+    return records + typed_message(draw, strings_of_size(draw, size * strings), size * (1 - strings))
+
+
+def types_run(size, count, strings):
+    common = strings_of_size(random.Random(size), size * strings / 2)
+    for draw in run_draws(size, count):
+        texts = [*common, *strings_of_size(draw, size * strings / 2)]
+        yield typed_message(draw, texts, size * (1 - strings))
 
 
 @dataclass(frozen=True)
@@ -311,9 +343,23 @@ KINDS = {
 }
 
 
+# The kinds of which there are runs: each makes so many messages of a size.
+RUNS = {
+    "samples": samples_run,
+    "types-20": lambda size, count: types_run(size, count, strings=0.2),
+}
+
+
 def write_message(kind, mib, path):
     with open(path, "wb") as file:
         file.write(KINDS[kind].message(int(mib * MIB)))
+
+
+def write_run(kind, mib, paths):
+    """Writes a message to each of these files, which have about `mib` MiB in all."""
+    for path, message in zip(paths, RUNS[kind](int(mib * MIB / len(paths)), len(paths))):
+        with open(path, "wb") as file:
+            file.write(message)
 
 
 if __name__ == "__main__":

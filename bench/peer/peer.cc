@@ -1,4 +1,4 @@
-// Reads a message into objects with Protocol Buffers' own library and writes it out again: `peer heap|arena IN OUT`.
+// Reads messages into the objects of one with Protocol Buffers' own library, and writes it: `peer heap|arena OUT IN..`.
 // With `heap` each object is allocated by itself, with `arena` all of them are in one arena.
 #include <google/protobuf/arena.h>
 
@@ -10,18 +10,22 @@
 
 using google::protobuf::Arena;
 
-int rewrite(peer::ProfilesData &message, const char *in, const char *out) {
-  std::ifstream source(in, std::ios::binary | std::ios::ate);
-  if (!source) {
-    std::cerr << "no file " << in << "\n";
-    return 2;
-  }
-  std::string bytes(source.tellg(), '\0');
-  source.seekg(0);
-  source.read(bytes.data(), bytes.size());
-  if (!message.ParseFromString(bytes)) {
-    std::cerr << "not a message: " << in << "\n";
-    return 2;
+// Reads the message of each file into `message` after what it holds: records and entries of tables are appended as they are.
+int rewrite(peer::ProfilesData &message, const char *out, char **first, char **last) {
+  std::string bytes;
+  for (char **in = first; in != last; ++in) {
+    std::ifstream source(*in, std::ios::binary | std::ios::ate);
+    if (!source) {
+      std::cerr << "no file " << *in << "\n";
+      return 2;
+    }
+    bytes.resize(source.tellg());
+    source.seekg(0);
+    source.read(bytes.data(), bytes.size());
+    if (!message.MergeFromString(bytes)) {
+      std::cerr << "not a message: " << *in << "\n";
+      return 2;
+    }
   }
   std::string written;
   if (!message.SerializeToString(&written)) {
@@ -34,15 +38,15 @@ int rewrite(peer::ProfilesData &message, const char *in, const char *out) {
 }
 
 int main(int argc, char **argv) {
-  std::string allocation = argc == 4 ? argv[1] : "";
+  std::string allocation = argc > 3 ? argv[1] : "";
   if (allocation == "heap") {
     peer::ProfilesData message;
-    return rewrite(message, argv[2], argv[3]);
+    return rewrite(message, argv[2], argv + 3, argv + argc);
   }
   if (allocation == "arena") {
     Arena arena;
-    return rewrite(*Arena::CreateMessage<peer::ProfilesData>(&arena), argv[2], argv[3]);
+    return rewrite(*Arena::CreateMessage<peer::ProfilesData>(&arena), argv[2], argv + 3, argv + argc);
   }
-  std::cerr << "peer heap|arena IN OUT\n";
+  std::cerr << "peer heap|arena OUT IN..\n";
   return 1;
 }

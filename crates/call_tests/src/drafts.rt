@@ -20,16 +20,16 @@ const FIRST: &[u8] =
 const SECOND: &[u8] =
     b"\x0a\x0a\x12\x08\x12\x06\x0a\x04\x08\x02\x10\x01\x12\x09\x2a\x00\x2a\x01x\x2a\x02ns";
 
-// The canonical bytes of the first, and of both: the second names the unit of the first.
+// The canonical bytes of the first, and of both under one resource and one scope: the second names the unit of the first.
 const FIRST_ALONE: &[u8] =
     b"\x0a\x0a\x12\x08\x12\x06\x0a\x04\x08\x01\x10\x02\x12\x17\x0a\x00\x12\x00\x1a\x00\x22\x00\x2a\x00\x2a\x03cpu\x2a\x02ns\x32\x00\x3a\x00";
 
 const BOTH: &[u8] =
-    b"\x0a\x0a\x12\x08\x12\x06\x0a\x04\x08\x01\x10\x02\x0a\x0a\x12\x08\x12\x06\x0a\x04\x08\x02\x10\x03\x12\x1a\x0a\x00\x12\x00\x1a\x00\x22\x00\x2a\x00\x2a\x03cpu\x2a\x02ns\x2a\x01x\x32\x00\x3a\x00";
+    b"\x0a\x12\x12\x10\x12\x06\x0a\x04\x08\x01\x10\x02\x12\x06\x0a\x04\x08\x02\x10\x03\x12\x1a\x0a\x00\x12\x00\x1a\x00\x22\x00\x2a\x00\x2a\x03cpu\x2a\x02ns\x2a\x01x\x32\x00\x3a\x00";
 
-// The canonical bytes of the first twice: two records side by side, and its dictionary.
+// The canonical bytes of the first twice: both profiles under one resource and one scope, and its dictionary.
 const FIRST_TWICE: &[u8] =
-    b"\x0a\x0a\x12\x08\x12\x06\x0a\x04\x08\x01\x10\x02\x0a\x0a\x12\x08\x12\x06\x0a\x04\x08\x01\x10\x02\x12\x17\x0a\x00\x12\x00\x1a\x00\x22\x00\x2a\x00\x2a\x03cpu\x2a\x02ns\x32\x00\x3a\x00";
+    b"\x0a\x12\x12\x10\x12\x06\x0a\x04\x08\x01\x10\x02\x12\x06\x0a\x04\x08\x01\x10\x02\x12\x17\x0a\x00\x12\x00\x1a\x00\x22\x00\x2a\x00\x2a\x03cpu\x2a\x02ns\x32\x00\x3a\x00";
 
 // Those of no records: a dictionary of seven zero entries.
 const NONE: &[u8] = b"\x12\x0e\x0a\x00\x12\x00\x1a\x00\x22\x00\x2a\x00\x32\x00\x3a\x00";
@@ -114,7 +114,7 @@ fn try_two<L: Ledger>(rt: &impl Abort, alloc: Global, blank: Blank) -> Result<()
     let mut draft = Draft::begin(alloc, &mut FixedSeeds)?;
     assert_eq!(rt; draft.size(), 16);
     assert_eq!(rt; add(alloc, &mut draft, FIRST, &mut steps), Ok(37));
-    assert_eq!(rt; add(alloc, &mut draft, SECOND, &mut steps), Ok(52));
+    assert_eq!(rt; add(alloc, &mut draft, SECOND, &mut steps), Ok(48));
     assert_finished(rt, alloc, draft, BOTH)
 }
 
@@ -130,7 +130,7 @@ fn try_too_long<L: Ledger>(rt: &impl Abort, alloc: Global, blank: Blank) -> Resu
     long.resize(33_554_432, 0)?;
     let mut draft = Draft::begin(alloc, &mut FixedSeeds)?;
     assert_eq!(rt; add(alloc, &mut draft, FIRST, &mut steps), Ok(37));
-    let fault = BuildFault::OutputLimit { size: 33_554_469 };
+    let fault = BuildFault::OutputLimit { size: 33_554_465 };
     assert_eq!(rt; add(alloc, &mut draft, &long, &mut steps), Err(fault));
     assert_eq!(rt; draft.size(), 37);
     assert_finished(rt, alloc, draft, FIRST_ALONE)
@@ -146,9 +146,9 @@ fn try_back<L: Ledger>(rt: &impl Abort, alloc: Global, blank: Blank) -> Result<(
     let mut draft = Draft::begin(alloc, &mut FixedSeeds)?;
     assert_eq!(rt; add(alloc, &mut draft, FIRST, &mut steps), Ok(37));
     let size = add_and_go_back(alloc, &mut draft, SECOND, &mut steps);
-    assert_eq!(rt; size, Ok(52));
+    assert_eq!(rt; size, Ok(48));
     assert_text(rt, alloc, &draft, FIRST_ALONE)?;
-    assert_eq!(rt; add(alloc, &mut draft, SECOND, &mut steps), Ok(52));
+    assert_eq!(rt; add(alloc, &mut draft, SECOND, &mut steps), Ok(48));
     assert_text(rt, alloc, &draft, BOTH)?;
     assert_finished(rt, alloc, draft, BOTH)
 }
@@ -166,11 +166,11 @@ fn try_older_mark<L: Ledger>(rt: &impl Abort, alloc: Global, blank: Blank) -> Re
     let mut draft = Draft::begin(alloc, &mut FixedSeeds)?;
     assert_text(rt, alloc, &draft, NONE)?;
     let size = add_below_older_mark(alloc, &mut draft, &long, &mut steps);
-    let fault = BuildFault::OutputLimit { size: 33_554_481 };
+    let fault = BuildFault::OutputLimit { size: 33_554_473 };
     assert_eq!(rt; size, Err(fault));
     assert_text(rt, alloc, &draft, NONE)?;
     assert_eq!(rt; add(alloc, &mut draft, FIRST, &mut steps), Ok(37));
-    assert_eq!(rt; add(alloc, &mut draft, FIRST_ALONE, &mut steps), Ok(49));
+    assert_eq!(rt; add(alloc, &mut draft, FIRST_ALONE, &mut steps), Ok(45));
     assert_finished(rt, alloc, draft, FIRST_TWICE)
 }
 

@@ -1,4 +1,4 @@
-//! Tables of keys: the hashed one and the searched one under the same calls.
+//! Tables of keys under the same calls: the searched one, and the two hashed ones.
 ghost use Rattle.std.specs.Prelude.{◌≡◌, ◌+◌, ◌<◌, ◌≤◌, [], length, OnOk};
 
 use pb_wire::{Blob, NoMemory};
@@ -8,10 +8,13 @@ use std::marker::Brand;
 use std::process::Abort;
 use std::sync::ledger::{Blank, Ledger};
 use std::test::Fail;
-use tables::{EntryKey, Interner, SearchedTable, Steps, Table};
+use tables::{BytesTable, EntryKey, Interner, SearchedTable, Steps, Table};
 
 // The hashed table with the fixed seed.
 type Hashed = Table<EntryKey, BuildHasherDefault<FoldHasher>>;
+
+// The table of bytes with the fixed seed.
+type OfBytes = BytesTable<BuildHasherDefault<FoldHasher>>;
 
 // The searched table.
 type Searched = SearchedTable<EntryKey>;
@@ -82,37 +85,42 @@ fn try_a_few<T: Interner<EntryKey>, L: Ledger>(
     Ok(())
 }
 
-// The answers for the bytes `a`, `b` and `a`. That they are three steps is proved.
-fn ask_three_copies<L: Ledger>(
-    alloc: Global,
-    table: &mut Hashed,
+// The answers of a table of bytes for `a`, `b` and `a`. That they are three steps is proved.
+fn ask_three_bytes<L: Ledger>(
+    table: &mut OfBytes,
     steps: &mut Steps<L>,
 ) -> Result<[u32; 3], NoMemory>
     requires { length table.old < 1000 }
-    ensures { OnOk result (steps.new ≡ steps.old + 3) }
+    ensures kept { length table.old ≤ length table.new }
+    ensures counted { OnOk result (steps.new ≡ steps.old + 3) }
 {
-    let first = table.intern_copy(alloc, b"a", steps)?;
-    let second = table.intern_copy(alloc, b"b", steps)?;
-    let third = table.intern_copy(alloc, b"a", steps)?;
+    let first = table.intern(b"a", steps)?;
+    let second = table.intern(b"b", steps)?;
+    let third = table.intern(b"a", steps)?;
     Ok([first, second, third])
 }
 
-// In a table that holds `b` alone.
-fn try_copies<L: Ledger>(
-    rt: &impl Abort,
-    alloc: Global,
-    table: &mut Hashed,
-    blank: Blank,
-) -> Result<(), Fail>
+// In a table that holds the key of no bytes alone.
+fn try_bytes<L: Ledger>(rt: &impl Abort, table: &mut OfBytes, blank: Blank) -> Result<(), Fail>
     requires name { blank.name ≡ L.name }
     requires parts { blank.parts ≡ L.parts }
     requires some { 0 < blank.parts }
     requires few { length table.old < 1000 }
 {
     let mut steps = Steps::<L>::begin(blank);
-    assert_eq!(rt; ask_three_copies(alloc, table, &mut steps)?, [1, 0, 1]);
-    assert_eq!(rt; table.len(), 2);
-    assert_eq!(rt; table.get(1).map(EntryKey::as_slice), Some(b"a".as_slice()));
+    let mark = table.mark();
+    assert_eq!(rt; ask_three_bytes(table, &mut steps)?, [1, 2, 1]);
+    table.back_to(mark);
+    assert_eq!(rt; table.len(), 1);
+    assert_eq!(rt; table.intern(b"b", &mut steps)?, 1);
+    assert_eq!(rt; table.intern(b"", &mut steps)?, 0);
+    for (index, want) in [
+        (0, Some(b"".as_slice())),
+        (1, Some(b"b".as_slice())),
+        (2, None),
+    ] {
+        assert_eq!(rt; table.get(index), want, "at {index}");
+    }
     Ok(())
 }
 
@@ -122,11 +130,11 @@ fn next_number(state: u32) -> u32 {
 }
 
 // The same calls on both tables: some hundred keys of one to three bytes, with repeats, and now and then a cut.
-fn try_both<A: Interner<EntryKey>, B: Interner<EntryKey>, L: Ledger>(
+fn try_both<L: Ledger>(
     rt: &impl Abort,
     alloc: Global,
-    hashed: &mut A,
-    searched: &mut B,
+    hashed: &mut OfBytes,
+    searched: &mut Searched,
     blank: Blank,
 ) -> Result<(), Fail>
     requires name { blank.name ≡ L.name }
@@ -141,7 +149,7 @@ fn try_both<A: Interner<EntryKey>, B: Interner<EntryKey>, L: Ledger>(
         let key = &bytes[..1 + state as usize % 3];
         assert!(rt; hashed.len() < 1000 && searched.len() < 1000);
         let marks = (hashed.mark(), searched.mark());
-        let place = ask(alloc, hashed, key, &mut steps)?;
+        let place = hashed.intern(key, &mut steps)?;
         assert_eq!(rt;
             place,
             ask(alloc, searched, key, &mut steps)?,
@@ -154,9 +162,8 @@ fn try_both<A: Interner<EntryKey>, B: Interner<EntryKey>, L: Ledger>(
         assert_eq!(rt; hashed.len(), searched.len(), "call {call}");
     }
     for index in 0..hashed.len() + 1 {
-        let held = hashed.get(index).map(EntryKey::as_slice);
         assert_eq!(rt;
-            held,
+            hashed.get(index),
             searched.get(index).map(EntryKey::as_slice),
             "at {index}"
         );
@@ -178,17 +185,16 @@ fn a_searched_table_answers_first_places(rt: HostRuntime) -> Result<(), Fail> {
 }
 
 #[test]
-fn bytes_are_copied_where_they_are_absent(rt: HostRuntime) -> Result<(), Fail> {
-    let alloc = rt.alloc();
-    let key = EntryKey::copy_of(alloc, b"b")?;
-    let mut table = Table::start(alloc, BuildHasherDefault::<FoldHasher>::new(), key)?;
-    try_copies::<Brand>(&rt, alloc, &mut table, Blank::new(1))
+fn a_table_of_bytes_answers_first_places(rt: HostRuntime) -> Result<(), Fail> {
+    let hasher = BuildHasherDefault::<FoldHasher>::new();
+    let mut table = BytesTable::start(rt.alloc(), hasher, b"")?;
+    try_bytes::<Brand>(&rt, &mut table, Blank::new(1))
 }
 
 #[test]
-fn both_tables_answer_the_same(rt: HostRuntime) -> Result<(), Fail> {
+fn bytes_have_the_places_that_a_search_finds(rt: HostRuntime) -> Result<(), Fail> {
     let alloc = rt.alloc();
-    let mut hashed = Table::begin(alloc, BuildHasherDefault::<FoldHasher>::new())?;
+    let mut hashed = BytesTable::begin(alloc, BuildHasherDefault::<FoldHasher>::new());
     let mut searched = SearchedTable::begin(alloc);
-    try_both::<Hashed, Searched, Brand>(&rt, alloc, &mut hashed, &mut searched, Blank::new(1))
+    try_both::<Brand>(&rt, alloc, &mut hashed, &mut searched, Blank::new(1))
 }

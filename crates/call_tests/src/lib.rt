@@ -6,6 +6,8 @@ mod drafts;
 #[cfg(test)]
 mod interners;
 #[cfg(test)]
+mod merging;
+#[cfg(test)]
 mod records;
 #[cfg(test)]
 mod tool;

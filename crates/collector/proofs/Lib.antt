@@ -2,5 +2,8 @@ pub mod Writing
 pub mod Rebuilding
 pub mod Each
 pub mod RunSteps
+pub mod Joining
+pub mod Held
+pub mod Performing
 pub mod CheckLines
 pub mod FaultNames

@@ -1,14 +1,17 @@
 -- Files written in order, and what a run leaves of its output.
-use Rattle.std.proofs.Common.{◌≡◌, ◌≤◌, ℕ, zero, suc, List, [], ◌∷◌, ◌++◌, ◌+◌, ◌<◌, inl, inr, length, take, drop, refl, sym, ap, ◌∙◌, get_or, Option, Some, None, Result, Ok, Err, IfSome, subst, add-one, arith}
+use Rattle.std.proofs.Common.{◌≡◌, ◌≤◌, ℕ, zero, suc, List, [], ◌∷◌, ◌++◌, ◌+◌, ◌<◌, inl, inr, length, take, drop, refl, sym, ap, ◌∙◌, get_or, Option, Some, None, Result, Ok, Err, IfErr, IfSome, subst, add-one, arith}
 use Rattle.std.proofs.Math.Seq.{take-suc}
 use Rattle.std.proofs.lemmas.List.{drop_more}
 use Rattle.outside.specs.Causes.{Rose}
 use Rattle.outside.specs.FileMap.{FileMap, with_file, SameBut}
+use Rattle.commands.specs.declared.words.ToolPlan.{ToolPlan}
+use Rattle.commands.specs.declared.words.WordRefusal.{WordRefusal}
+use Rattle.collector.specs.Answer.{performed, with_plan}
 use Rattle.collector.specs.declared.output.Output.{Output}
 use Rattle.collector.specs.declared.stop.Stop.{Stop}
 use Rattle.collector.specs.declared.stop.Stop.TheVariants.{Refused, Read, Write, NoMemory}
 use Rattle.collector.specs.Causes.{IsOneOf, IsWriteAt, IsWriteOf}
-use Rattle.collector.specs.Delivery.{put_files, names_of, FirstUntold, FailedAtFile, FileLeft, FilesLeft, Seen, Untouched, PartDelivered}
+use Rattle.collector.specs.Delivery.{put_files, names_of, FirstUntold, FailedAtFile, FileLeft, FilesLeft, OutputLeft, Seen, Untouched, Partly, PartDelivered}
 
 abbrev Files : Type 0
 Files = List (List ℕ × List ℕ)
@@ -60,6 +63,38 @@ unwritten_of (Err stop) before now still = still
 pub unwritten : (told : Option FileMap) (want : FileMap → Result Output Stop) (before now : Seen) → Untouched before now → IfSome told (λ m. PartDelivered (want m) before now)
 unwritten None want before now still = tt
 unwritten (Some m) want before now still = unwritten_of (want m) before now still
+
+-- what is left at a stop is written in part
+part_left : (output : Output) (before now : Seen) (stop : Stop) → OutputLeft output before now stop → Partly output before now
+part_left output before now (Refused refusal) left = absurd left
+part_left output before now (Read name) left = absurd left
+part_left output before now (Write name) (inl (failed, taken)) = inl (inr (record { name = name; failed = failed }), taken)
+part_left output before now (Write name) (inr (named, all, rose)) = inr all
+part_left output before now NoMemory left = left
+
+-- what is told, with these counts
+told_seen : Option FileMap → ℕ → Option (List ℕ) → ℕ → Seen
+told_seen told faults taken out = record { told = told; write_faults = faults; taken = taken; out_faults = out }
+
+-- where an output was wanted, over files that were only read before
+pub part_written : {T : Type 0} (told mid : Option FileMap) (want : FileMap → Result Output Stop) (output : Output) (faults faults' : ℕ) (taken : Option (List ℕ)) (out : ℕ) (now : Seen) (r : Result T Stop)
+    → mid ≡ told → faults' ≡ faults → IfSome told (λ m. want m ≡ Ok output)
+    → IfErr r (OutputLeft output (record { told = mid; write_faults = faults'; taken = taken; out_faults = out }) now)
+    → IfErr r (λ _. IfSome told (λ m. PartDelivered (want m) (record { told = told; write_faults = faults; taken = taken; out_faults = out }) now))
+unfolding told_seen
+part_written told mid want output faults faults' taken out now (Ok value) same count wanted left = tt
+part_written None mid want output faults faults' taken out now (Err stop) same count wanted left = tt
+part_written (Some m) mid want output faults faults' taken out now (Err stop) same count wanted left =
+    let is : told_seen mid faults' taken out ≡ told_seen (Some m) faults taken out =
+    ap (λ (o : Option FileMap). told_seen o faults' taken out) same ∙ ap (λ n. told_seen (Some m) n taken out) count
+    in
+    subst (λ w. PartDelivered w (told_seen (Some m) faults taken out) now) (sym wanted)
+    (subst (λ (before : Seen). Partly output before now) is (part_left output (told_seen mid faults' taken out) now stop left))
+
+-- what a plan comes to is what the words of it come to
+pub wanted_of_words : (told : Option FileMap) (words : Result ToolPlan WordRefusal) (plan : ToolPlan) (output : Output) → words ≡ Ok plan
+    → IfSome told (λ m. performed plan m ≡ Ok output) → IfSome told (λ m. with_plan words m ≡ Ok output)
+wanted_of_words told words plan output is wanted = subst (λ (w : Result ToolPlan WordRefusal). IfSome told (λ m. with_plan w m ≡ Ok output)) (sym is) wanted
 
 -- ---- names
 

@@ -1,9 +1,10 @@
 pub mod Lines
-pub mod Outputs
 pub mod Messages
+pub mod Outputs
 pub mod Rebuilt
 pub mod CanonAnswer
 pub mod CheckAnswer
+pub mod MergeAnswer
 pub mod Answer
 pub mod Causes
 pub mod Delivery

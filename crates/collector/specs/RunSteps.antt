@@ -1,6 +1,6 @@
 -- What the steps of a run promise of their results, of the files and of the standard output. `F` holds the words of the files,
 -- such as `F.told`, and `O` those of the standard output.
-use Rattle.std.specs.Prelude.{◌≡◌, ◌≤◌, ℕ, List, Result, Ok, OnOk, IfOk, IfErr, IfSome}
+use Rattle.std.specs.Prelude.{◌≡◌, ◌≤◌, ℕ, List, Result, Ok, Err, OnOk, IfOk, IfErr, IfSome}
 use Rattle.outside.specs.FileMap.{FileMap, with_file}
 use Rattle.outside.specs.Streams.{appended}
 use Rattle.outside.specs.declared.files.Files.{Ghosts as OfFiles}
@@ -33,6 +33,16 @@ pub record IsRead {S T : Type 0} (F : OfFiles S) (old new : S) (names : List (Li
   pub ok : IfOk result (λ value. IfSome (F.told old) (λ m. want m ≡ Ok value))
   pub stopped : IfErr result (λ stop. IfSome (F.told old) (λ m. IsStop (want m) stop))
   pub reads : OnlyReads F old new names result
+
+-- The step computes: its result is of a value that is wanted, of which this holds, or its stop is the wanted one.
+abbrev pub ComputesTo : {A T : Type 0} → Result A Stop → (A → T → Type 0) → Result T Stop → Type 0
+ComputesTo {A = A} want holds (Ok value) = (a : A) × IsComputed want (Ok a) × holds a value
+ComputesTo {A = A} want holds (Err stop) = IsComputed {T = A} want (Err stop)
+
+-- The same of a step that reads these files.
+abbrev pub ReadsTo : {S A T : Type 0} → OfFiles S → S → S → List (List ℕ) → (FileMap → Result A Stop) → (A → T → Type 0) → Result T Stop → Type 0
+ReadsTo {A = A} F old new names want holds (Ok value) = (a : A) × IsRead F old new names want (Ok a) × holds a value
+ReadsTo {A = A} F old new names want holds (Err stop) = IsRead {T = A} F old new names want (Err stop)
 
 -- The plan is performed: its files are read, and the output, which keeps what its command promises, has the plan's targets.
 pub record IsPerformed {S : Type 0} (F : OfFiles S) (old new : S) (plan : ToolPlan) (result : Result Output Stop) : Type 0 where

@@ -1,20 +1,21 @@
 //! The command `canon`.
-ghost use Rattle.std.specs.Prelude.{◌≡◌, [], ◌∷◌, IfOk};
+ghost use Rattle.std.specs.Prelude.{◌≡◌, [], ◌∷◌, IfOk, IsOkAnd};
 ghost use Rattle.otlp_msg.specs.Checked.{value_of};
+ghost use Rattle.otlp_msg.specs.Message.{message_of};
+ghost use Rattle.split_merge.specs.Canonical.{meaning};
 ghost use Rattle.collector.specs.CanonAnswer.{canon_in, canon_file};
 ghost use Rattle.collector.specs.Delivery.{names_of};
-ghost use Rattle.collector.specs.Outputs.{one_file};
-ghost use Rattle.collector.specs.Rebuilt.{IsRebuilt, IsRebuiltFrom};
+ghost use Rattle.collector.specs.Messages.{accepted};
+ghost use Rattle.collector.specs.Rebuilt.{IsRebuilt};
 ghost use Rattle.collector.specs.RunSteps.{IsComputed, IsPerformed};
 
-use crate::lines::wrote_line;
+use crate::building::output_of_built;
 use crate::reading::{checked_message, read_bytes};
-use crate::{Output, Stop, ToolRefusal, Writes};
+use crate::{Output, Stop};
 use commands::ToolPlan;
-use dict_build::BuildFault;
 use otlp_msg::Checked;
 use outside::{Files, Seeds};
-use pb_wire::{Blob, NoMemory, Text};
+use pb_wire::Text;
 use split_merge::canon;
 use std::alloc::Global;
 
@@ -43,7 +44,7 @@ fn canon_in<M: Seeds>(
     seeds: &mut M,
 ) -> Result<Output, Stop>
     ensures computed { IsComputed (canon_in file.now target.now body.now) result }
-    ensures rebuilt { IfOk result (IsRebuiltFrom body.now target.now) }
+    ensures rebuilt { IfOk result (λ output. IsOkAnd (accepted file.now (message_of body.now)) (λ m. IsRebuilt (meaning m) target.now output)) }
     ensures targets { IfOk result (λ output. names_of output.files ≡ target.now ∷ []) }
 {
     match checked_message(alloc, file, body) {
@@ -60,22 +61,8 @@ fn canon_file<M: Seeds>(
     seeds: &mut M,
 ) -> Result<Output, Stop>
     ensures computed { IsComputed (canon_file target.now (value_of message.now)) result }
-    ensures rebuilt { IfOk result (IsRebuilt (value_of message.now) target.now) }
+    ensures rebuilt { IfOk result (IsRebuilt (meaning (value_of message.now)) target.now) }
     ensures targets { IfOk result (λ output. names_of output.files ≡ target.now ∷ []) }
 {
-    match canon(alloc, message, seeds) {
-        Ok(bytes) => Ok(output_of_one(alloc, target, bytes)?),
-        Err(BuildFault::OutputLimit { size }) => Err(Stop::Refused(ToolRefusal::Limit { size })),
-        Err(BuildFault::NoMemory) => Err(Stop::NoMemory),
-    }
-}
-
-// One file, and the line that it was written.
-fn output_of_one(alloc: Global, target: &Text, bytes: Blob) -> Result<Output, NoMemory>
-    ensures { IfOk result (λ output. output ≡ one_file target.now bytes) }
-{
-    let lines = wrote_line(alloc, target.as_str(), bytes.len())?;
-    let mut files = Writes::begin(alloc);
-    files.add((Text::copy_of(alloc, target.as_str())?, bytes))?;
-    Ok(Output { files, lines })
+    output_of_built(alloc, target, canon(alloc, message, seeds))
 }

@@ -3,10 +3,12 @@
 //! docs/CONTRIBUTING.md says what a new command adds; no clause of another command changes.
 #![tactic(auto)]
 
+mod building;
 mod canon_command;
 mod check_command;
 mod deliver;
 mod lines;
+mod merge_command;
 mod output;
 mod reading;
 mod report;

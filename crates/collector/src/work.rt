@@ -3,6 +3,7 @@ ghost use Rattle.collector.specs.RunSteps.{IsPerformed};
 
 use crate::canon_command::perform_canon;
 use crate::check_command::perform_check;
+use crate::merge_command::perform_merge;
 use crate::{Output, Stop};
 use commands::ToolPlan;
 use outside::{Files, Seeds};
@@ -20,5 +21,9 @@ pub fn perform<F: Files, M: Seeds>(
     match plan {
         ToolPlan::Check { files: names } => perform_check(alloc, names, files),
         ToolPlan::Canon { file, target } => perform_canon(alloc, file, target, files, seeds),
+        ToolPlan::Merge {
+            target,
+            files: names,
+        } => perform_merge(alloc, target, names, files, seeds),
     }
 }

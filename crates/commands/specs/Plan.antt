@@ -3,7 +3,7 @@ use Rattle.std.specs.Prelude.{◌≡◌, ℕ, Bool, List, [], ◌∷◌, map, if
 use Rattle.std.specs.Cmp.Lexicographic.{pointwise}
 use Rattle.std.specs.declared.alloc.Global.{Global}
 use Rattle.commands.specs.declared.words.ToolPlan.{ToolPlan}
-use Rattle.commands.specs.declared.words.ToolPlan.TheVariants.{Check, Canon}
+use Rattle.commands.specs.declared.words.ToolPlan.TheVariants.{Check, Canon, Merge}
 use Rattle.commands.specs.declared.words.WordReason.TheVariants.{NoCommand, UnknownCommand, MissingWord, ExtraWord}
 use Rattle.commands.specs.declared.words.WordRefusal.{WordRefusal}
 use Rattle.commands.specs.declared.words.WordRefusal.TheVariants.{Fault, NoMemory}
@@ -28,23 +28,32 @@ two_words make (a ∷ []) = Err (Fault 2 MissingWord)
 two_words make (a ∷ b ∷ []) = Ok (make a b)
 two_words make (a ∷ b ∷ c ∷ more) = Err (Fault 3 ExtraWord)
 
+-- a command that takes one word, and then any number of words, but one at least
+abbrev pub word_and_some : (List ℕ → List (List ℕ) → ToolPlan) → List (List ℕ) → Result ToolPlan WordRefusal
+word_and_some make [] = Err (Fault 1 MissingWord)
+word_and_some make (a ∷ []) = Err (Fault 2 MissingWord)
+word_and_some make (a ∷ b ∷ more) = Ok (make a (b ∷ more))
+
 -- what the command line asks for, or what is wrong with it; one line a command
 abbrev pub planned : List (List ℕ) → Result ToolPlan WordRefusal
 planned [] = Err (Fault 0 NoCommand)
 planned (command ∷ rest) =
     if is_word command (codes "check") then some_words Check rest
     else if is_word command (codes "canon") then two_words Canon rest
+    else if is_word command (codes "merge") then word_and_some Merge rest
     else Err (Fault 0 UnknownCommand)
 
 -- the files that a plan reads, in order; one line a command
 abbrev pub inputs : ToolPlan → List (List ℕ)
 inputs (Check files) = files
 inputs (Canon file target) = file ∷ []
+inputs (Merge target files) = files
 
 -- these are the names of the files that a plan writes, in order; one line a command
 abbrev pub HasTargets : ToolPlan → List (List ℕ) → Type 0
 HasTargets (Check files) names = names ≡ []
 HasTargets (Canon file target) names = names ≡ target ∷ []
+HasTargets (Merge target files) names = names ≡ target ∷ []
 
 -- the refusal is the one that is wanted, or out of memory
 abbrev pub IsWordRefusal : Result ToolPlan WordRefusal → WordRefusal → Type 0

@@ -1,6 +1,6 @@
 //! The command line.
 ghost use Rattle.std.specs.Prelude.{◌≡◌, ◌++◌, ◌∷◌, [], Ok, IfOk, IfErr, OnOk};
-ghost use Rattle.commands.specs.Plan.{planned, some_words, two_words, texts_of, IsWordRefusal};
+ghost use Rattle.commands.specs.Plan.{planned, some_words, two_words, word_and_some, texts_of, IsWordRefusal};
 
 use pb_wire::{List, NoMemory, Text};
 use std::alloc::Global;
@@ -16,6 +16,8 @@ pub enum ToolPlan {
     Check { files: Texts },
     /// Writes the canonical bytes of the message in `file` to `target`.
     Canon { file: Text, target: Text },
+    /// Joins the messages in `files`, of which there is at least one, and writes the canonical bytes to `target`.
+    Merge { target: Text, files: Texts },
 }
 
 /// What is wrong with the command line.
@@ -65,6 +67,9 @@ pub fn plan(alloc: Global, words: &[String]) -> Result<ToolPlan, WordRefusal>
     }
     if command.as_str() == "canon" {
         return canon_plan(alloc, rest);
+    }
+    if command.as_str() == "merge" {
+        return merge_plan(alloc, rest);
     }
     fault(0, WordReason::UnknownCommand)
 }
@@ -121,5 +126,20 @@ fn canon_plan(alloc: Global, rest: &[String]) -> Result<ToolPlan, WordRefusal>
             target: Text::copy_of(alloc, target.as_str())?,
         }),
         _ => fault(3, WordReason::ExtraWord),
+    }
+}
+
+// `merge OUT IN..`, without its command.
+fn merge_plan(alloc: Global, rest: &[String]) -> Result<ToolPlan, WordRefusal>
+    ensures ok { IfOk result (λ plan. word_and_some ToolPlan.Merge (texts_of rest.now) ≡ Ok plan) }
+    ensures refused { IfErr result (IsWordRefusal (word_and_some ToolPlan.Merge (texts_of rest.now))) }
+{
+    match rest {
+        [] => fault(1, WordReason::MissingWord),
+        [_] => fault(2, WordReason::MissingWord),
+        [target, files @ ..] => Ok(ToolPlan::Merge {
+            target: Text::copy_of(alloc, target.as_str())?,
+            files: copies(alloc, files)?,
+        }),
     }
 }

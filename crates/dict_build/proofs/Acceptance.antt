@@ -1,17 +1,17 @@
 -- Canonical bytes are accepted, with their meaning, and are those of no other meaning.
-use Rattle.std.proofs.Common.{◌≡◌, ◌≤◌, refl, arith}
+use Rattle.std.proofs.Common.{◌≡◌, ◌≤◌, refl, subst, arith}
 use Rattle.schema.specs.Fits.{Fits}
 use Rattle.schema.specs.Messages.{resource_profiles, envelope}
 use Rattle.schema_laws.proofs.Lawfulness.{lawful_from}
-use Rattle.schema_laws.proofs.Lists.{each_append}
-use Rattle.meaning.specs.Meaning.{IsMeaning}
 use Rattle.meaning.specs.Message.{canonical_value, meaning_text}
-use Rattle.meaning.specs.Ranges.{HasRange}
 use Rattle.meaning.proofs.Message.{canonical_entries_within, canonical_records_within, canonical_zeros, means_the_same, messages_mean, text_apart, text_back}
 use Rattle.meaning.proofs.Ranges.{meanings_fit, messages_range}
 use Rattle.meaning.proofs.Soundness.{records_sound}
 use Rattle.otlp_msg.specs.Message.{Message, message_limit}
 use Rattle.otlp_msg.proofs.GoodMessages.{in_order}
+use Rattle.operations.specs.Heads.{HeadsFit}
+use Rattle.operations.proofs.Heads.{message-heads}
+use Rattle.operations.proofs.Meanings.{seam-means, seam-ranges}
 use Rattle.dict_build.specs.Meanings.{Meaning, CanBeWritten, IsAcceptedAs, joined, meaning, size_of}
 
 -- the meaning of a message that can be written can be, where its canonical bytes are few
@@ -25,14 +25,19 @@ message_written m fits few = record {
 -- so can a meaning with that of a message joined
 pub joined_written : (ms : Meaning) (m : Message) → CanBeWritten ms → Fits envelope m → size_of (joined ms m) ≤ message_limit → CanBeWritten (joined ms m)
 joined_written ms m w fits few = record {
-  means = each_append (IsMeaning resource_profiles) ms (meaning m) w.means (messages_mean resource_profiles records_sound m);
-  ranges = each_append (HasRange resource_profiles) ms (meaning m) w.ranges (messages_range resource_profiles records_sound m fits);
+  means = seam-means ms (meaning m) w.means (messages_mean resource_profiles records_sound m);
+  ranges = seam-ranges ms (meaning m) w.ranges (messages_range resource_profiles records_sound m fits);
   small = few;
 }
 
 -- the canonical message of a meaning that can be written fits
 pub written_fits : (ms : Meaning) → CanBeWritten ms → Fits envelope (canonical_value resource_profiles ms)
 written_fits ms w = meanings_fit resource_profiles tt records_sound (lawful_from resource_profiles refl) ms w.ranges (let few = w.small in omega arith)
+
+-- so its heads can be written
+pub heads_written : (ms : Meaning) → CanBeWritten ms → HeadsFit ms
+heads_written ms w =
+    subst HeadsFit (means_the_same resource_profiles records_sound ms w.means) (message-heads (canonical_value resource_profiles ms) (written_fits ms w))
 
 -- its canonical bytes are accepted as this message, with its meaning
 pub meaning_accepted : (ms : Meaning) → CanBeWritten ms → IsAcceptedAs (meaning_text resource_profiles ms) ms

@@ -1,5 +1,5 @@
 -- Records that are added: they were met, are measured, and stand with their new indexes.
-use Rattle.std.proofs.Common.{◌≡◌, ◌+◌, ◌≤◌, ◌^◌, ◌++◌, ℕ, List, length, map, Result, Ok, Err, sym, ap, ◌∙◌, arith}
+use Rattle.std.proofs.Common.{◌≡◌, ◌+◌, ◌≤◌, ◌^◌, ◌++◌, ◌∷◌, [], ℕ, zero, suc, List, length, map, drop, Result, Ok, Err, sym, ap, ◌∙◌, subst, arith}
 use Rattle.std.proofs.lemmas.List.{append-nil, length-append}
 use Rattle.schema.specs.Messages.{resource_profiles, dictionary, envelope}
 use Rattle.schema.specs.Moved.{moved}
@@ -13,6 +13,7 @@ use Rattle.dict_rec.specs.declared.dictionary.Dictionary.{Dictionary}
 use Rattle.dict_rec.specs.Views.{dictionary_view}
 use Rattle.key_tables.specs.Keys.{Keys, at, keys_text}
 use Rattle.otlp_msg.specs.Message.{message_limit}
+use Rattle.parts.specs.LastHeads.{last_heads, repeated_parts}
 use Rattle.parts.specs.Parts.{RecordPart, parts_text}
 use Rattle.parts.specs.Sums.{Sums, sum_of, sums_from, sums_of, no_sums}
 use Rattle.parts.specs.Values.{value_parts}
@@ -23,7 +24,7 @@ use Rattle.renumber.specs.Entries.{IsPart, IsSource}
 use Rattle.renumber.specs.Walk.{IsReady, State, WalkedEach, missed}
 use Rattle.renumber.proofs.Parts.{part_rows}
 use Rattle.renumber.proofs.Texts.{records_short as short_as_parts, values_spelled}
-use Rattle.dict_build.specs.Adding.{AreShorter, IsRefused, IsTooLong, moved_parts}
+use Rattle.dict_build.specs.Adding.{AreShorter, IsRefused, IsTooLong, moved_parts, unrepeated_parts}
 use Rattle.dict_build.specs.Contents.{contents, whole_text}
 use Rattle.dict_build.specs.declared.fault.BuildFault.{BuildFault}
 use Rattle.dict_build.specs.declared.fault.BuildFault.TheVariants.{OutputLimit, NoMemory}
@@ -47,6 +48,17 @@ measurable w xs z r p =
     let b = short_as_parts w z r xs (part_rows w.source (xs, tt) p).0 1 in
     let s = p.short in
     fronts_short (2 ^ 63) (moved_parts w xs) (omega (arith, b, s, records_text xs, ap length (parts_spelled (map (moved (index_in (at w.memo)) resource_profiles) xs))))
+
+-- and so can what is left of them
+dropped_shorter : (n k : ℕ) (ps : List RecordPart) → AreShorter n ps → AreShorter n (drop k ps)
+dropped_shorter n zero ps h = h
+dropped_shorter n (suc k) [] h = h
+dropped_shorter n (suc k) (p ∷ ps) h = dropped_shorter n k ps h.1
+
+pub left_measurable : (w : State) (xs : List (Value resource_profiles)) (before added : List RecordPart) → added ≡ unrepeated_parts before (moved_parts w xs)
+    → AreShorter (2 ^ 63) (moved_parts w xs) → AreShorter (2 ^ 63) added
+left_measurable w xs before added e h =
+    subst (AreShorter (2 ^ 63)) (sym e) (dropped_shorter (2 ^ 63) (repeated_parts (last_heads before) (moved_parts w xs)) (moved_parts w xs) h)
 
 -- and put, where the whole is no longer than a message may be
 pub writable : (keys : Keys) (ps qs : List RecordPart) → length (whole_text (contents keys (ps ++ qs))) ≤ message_limit → AreShorter (2 ^ 62) qs

@@ -1,8 +1,7 @@
 -- The contents of drafts: they begin, gain records, and are the canonical bytes of meanings.
 use Rattle.std.proofs.Common.{◌≡◌, ℕ, ◌+◌, List, [], ◌∷◌, ◌++◌, length, map, replicate, None, refl, sym, ap, ◌∙◌, arith}
-use Rattle.std.proofs.lemmas.Grind.{flat_map-append}
 use Rattle.std.proofs.lemmas.List.{length-append}
-use Rattle.schema.specs.Messages.{profile, scope, resource, resource_profiles}
+use Rattle.schema.specs.Messages.{resource_profiles}
 use Rattle.schema.specs.Shape.{Value, Table, Mappings, Locations, Functions, Links, Strings, Attributes, Stacks}
 use Rattle.schema.specs.Texts.{items_text, long_field, varint, varint_upto}
 use Rattle.schema_laws.proofs.Onto.{long_onto}
@@ -10,14 +9,14 @@ use Rattle.meaning.specs.Canonical.{records, record_list, values}
 use Rattle.meaning.specs.Message.{meaning_of, meaning_text, record_text}
 use Rattle.meaning.specs.Renumbering.{BecomeEach, BeginWithZeros}
 use Rattle.meaning.specs.Tree.{Tree, tree}
-use Rattle.meaning.proofs.Drafts.{draft_begins, draft_canonical, draft_joined}
+use Rattle.meaning.proofs.Drafts.{draft_begins, draft_canonical}
 use Rattle.meaning.proofs.Texts.{draft-text}
 use Rattle.meaning.proofs.Zeros.{entries_first}
 use Rattle.dict_rec.specs.declared.dictionary.Dictionary.{Dictionary}
 use Rattle.dict_rec.specs.Views.{dictionary_view}
 use Rattle.key_tables.specs.Keys.{at, keys_text, text_from, zero_keys}
 use Rattle.parts.specs.Parts.{parts_text}
-use Rattle.parts.specs.Records.{record_parts, resource_parts}
+use Rattle.parts.specs.Records.{record_parts}
 use Rattle.parts.specs.Values.{value_parts}
 use Rattle.parts.proofs.Values.{value-parts}
 use Rattle.parts.proofs.Spelling.{records-text}
@@ -25,6 +24,10 @@ use Rattle.renumber.specs.Entries.{new_entries, old_entries}
 use Rattle.renumber.specs.Walk.{IsReady, MemoLists}
 use Rattle.renumber.proofs.Beginning.{zeros_alone}
 use Rattle.renumber.proofs.Keys.{zero_key}
+use Rattle.operations.specs.Heads.{HeadsFit}
+use Rattle.operations.specs.Seams.{seam}
+use Rattle.operations.proofs.Repeated.{draft-by-texts}
+use Rattle.dict_build.specs.Adding.{unrepeated_parts}
 use Rattle.dict_build.specs.Contents.{Contents, IsDraft, contents, whole_text}
 use Rattle.renumber.proofs.Texts.{nothing_met}
 use Rattle.dict_build.proofs.Dictionaries.{tables_spelled}
@@ -89,15 +92,18 @@ draft_ready old d ms memo r seven e = nothing_met old d.keys memo r.tables.draft
         let f = entries_first (records resource_profiles) (record_list ms) T in
         (f.0, (draft_canonical resource_profiles (new_entries d.keys) ms r.new_records r.tables.drafted).0 T ∙ f.1)
 
--- records that became these, with their parts after the draft's, make a draft of all
+-- records that became these, with the parts that they add after the draft's, make a draft of the seam
 pub draft_grown : (old : Dictionary) (rs ys : List (Value resource_profiles)) (d d' : Contents) (ms : List Tree) (memo : MemoLists)
     → IsDraft d ms → IsReady old d'.keys memo → BecomeEach (old_entries old) resource_profiles (values (new_entries d.keys)) (values (new_entries d'.keys)) rs ys
-    → d'.parts ≡ d.parts ++ value_parts ys → IsDraft d' (ms ++ meaning_of resource_profiles (rs, (dictionary_view old, tt)))
-draft_grown old rs ys d d' ms memo r q t e =
-    let new_records : List Tree = map (tree resource_profiles) ys in
+    → HeadsFit ms → HeadsFit (meaning_of resource_profiles (rs, (dictionary_view old, tt)))
+    → d'.parts ≡ d.parts ++ unrepeated_parts d.parts (value_parts ys) → IsDraft d' (seam ms (meaning_of resource_profiles (rs, (dictionary_view old, tt))))
+draft_grown old rs ys d d' ms memo r q t f g e =
+    let xs : List Tree = map (tree resource_profiles) ys in
+    let ns : List Tree = meaning_of resource_profiles (rs, (dictionary_view old, tt)) in
+    let j = draft-by-texts (new_entries d.keys) (new_entries d'.keys) ms ns r.new_records xs r.tables.drafted q.ready.deduplicated t f g in
     record {
-      new_records = r.new_records ++ new_records;
-      tables = record { seven = q.seven; drafted = draft_joined r.tables.drafted q.ready.deduplicated t; texts = q.texts; few = q.few };
-      spelled = e ∙ ap (λ ps. ps ++ value_parts ys) r.spelled ∙ ap (λ ps. record_parts r.new_records ++ ps) (sym (value-parts ys))
-          ∙ sym (flat_map-append (resource_parts resource scope profile) r.new_records new_records);
+      new_records = j.0;
+      tables = record { seven = q.seven; drafted = j.1; texts = q.texts; few = q.few };
+      spelled = e ∙ ap (λ ps. ps ++ unrepeated_parts ps (value_parts ys)) r.spelled
+          ∙ ap (λ ps. record_parts r.new_records ++ unrepeated_parts (record_parts r.new_records) ps) (sym (value-parts ys)) ∙ sym j.2;
     }

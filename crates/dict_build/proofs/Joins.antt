@@ -18,14 +18,15 @@ use Rattle.renumber.specs.Entries.{IsSource, new_entries, old_entries}
 use Rattle.renumber.specs.Walk.{IsReady, State, WalkedEach}
 use Rattle.renumber.proofs.Texts.{values_renumbered}
 use Rattle.parts.specs.Parts.{RecordPart}
-use Rattle.dict_build.specs.Adding.{AreRenumbered, IsRefused, moved_parts, size_with}
+use Rattle.operations.proofs.Heads.{message-heads}
+use Rattle.dict_build.specs.Adding.{AreRenumbered, IsRefused, moved_parts, size_with, unrepeated_parts}
 use Rattle.dict_build.specs.Contents.{IsDraft, contents, whole_text}
 use Rattle.dict_build.specs.declared.fault.BuildFault.{BuildFault}
 use Rattle.dict_build.specs.declared.fault.BuildFault.TheVariants.{OutputLimit, NoMemory}
-use Rattle.dict_build.specs.Draft.{IsFaultOfJoined, StandsForJoined}
+use Rattle.dict_build.specs.Draft.{IsFaultOfJoined, StandsFor, StandsForJoined}
 use Rattle.dict_build.specs.Marks.{GoesOn}
 use Rattle.dict_build.specs.Meanings.{Meaning, joined, size_of}
-use Rattle.dict_build.proofs.Acceptance.{joined_written}
+use Rattle.dict_build.proofs.Acceptance.{heads_written, joined_written}
 use Rattle.dict_build.proofs.Drafts.{size_is}
 use Rattle.dict_build.proofs.DraftContents.{draft_grown}
 
@@ -59,29 +60,29 @@ module _ (old : Dictionary) (keys keys' : Keys) (a b : State) (l : Led old keys 
   abbrev m : Message
   m = (rs, (dictionary_view old, tt))
 
-  -- with their parts after those of a draft there is a draft of all
-  joined_draft : (ps ps' : List RecordPart) (ms : Meaning) → IsDraft (contents keys ps) ms → WalkedEach resource_profiles a b rs → ps' ≡ ps ++ moved_parts b rs
-      → IsDraft (contents keys' ps') (joined ms m)
-  joined_draft ps ps' ms d w e =
-      draft_grown old rs (map (moved (index_in (at b.memo)) resource_profiles) rs) (contents keys ps) (contents keys' ps') ms b.memo d
-      (subst (λ (o : Dictionary). IsReady o keys' b.memo) (l.same ∙ l.source) l.ready) (become w) e
+  -- with the parts that they add after those of a draft there is a draft of the seam
+  joined_draft : (ps ps' : List RecordPart) (ms : Meaning) → Fits envelope m → StandsFor (contents keys ps) ms → WalkedEach resource_profiles a b rs
+      → ps' ≡ ps ++ unrepeated_parts ps (moved_parts b rs) → IsDraft (contents keys' ps') (joined ms m)
+  joined_draft ps ps' ms fits s w e =
+      draft_grown old rs (map (moved (index_in (at b.memo)) resource_profiles) rs) (contents keys ps) (contents keys' ps') ms b.memo s.draft
+      (subst (λ (o : Dictionary). IsReady o keys' b.memo) (l.same ∙ l.source) l.ready) (become w) (heads_written ms s.written) (message-heads m fits) e
 
   -- whose size is that of all
-  joined_size : (ps ps' : List RecordPart) (ms : Meaning) → IsDraft (contents keys ps) ms → WalkedEach resource_profiles a b rs → ps' ≡ ps ++ moved_parts b rs
-      → length (whole_text (contents b.keys ps')) ≡ size_of (joined ms m)
-  joined_size ps ps' ms d w e =
+  joined_size : (ps ps' : List RecordPart) (ms : Meaning) → Fits envelope m → StandsFor (contents keys ps) ms → WalkedEach resource_profiles a b rs
+      → ps' ≡ ps ++ unrepeated_parts ps (moved_parts b rs) → length (whole_text (contents b.keys ps')) ≡ size_of (joined ms m)
+  joined_size ps ps' ms fits s w e =
       ap (λ (k : Keys). length (whole_text (contents k ps'))) (sym l.to)
-      ∙ size_is (contents keys' ps') (joined ms m) (length (whole_text (contents keys' ps'))) refl (joined_draft ps ps' ms d w e)
+      ∙ size_is (contents keys' ps') (joined ms m) (length (whole_text (contents keys' ps'))) refl (joined_draft ps ps' ms fits s w e)
 
   -- where that is short, it stands for all
   pub joined_stands : (ps ps' : List RecordPart) → Fits envelope m → AreRenumbered a b ps ps' rs → size_with b ps rs ≤ message_limit
       → StandsForJoined (contents keys ps) (contents keys' ps') m
   joined_stands ps ps' fits q few ms s = record {
-    draft = joined_draft ps ps' ms s.draft q.walked q.is;
-    written = joined_written ms m s.written fits (subst (λ n. n ≤ message_limit) (joined_size ps (ps ++ moved_parts b rs) ms s.draft q.walked refl) few);
+    draft = joined_draft ps ps' ms fits s q.walked q.is;
+    written = joined_written ms m s.written fits (subst (λ n. n ≤ message_limit) (joined_size ps (ps ++ unrepeated_parts ps (moved_parts b rs)) ms fits s q.walked refl) few);
   }
 
   -- a refusal tells it
-  pub refused : (ps : List RecordPart) (fault : BuildFault) → IsRefused a b ps rs fault → IsFaultOfJoined (contents keys ps) m fault
-  refused ps (OutputLimit size) q ms s = (q.1.0 ∙ joined_size ps (ps ++ moved_parts b rs) ms s.draft q.0 refl, q.1.1)
-  refused ps NoMemory q ms s = tt
+  pub refused : (ps : List RecordPart) (fault : BuildFault) → Fits envelope m → IsRefused a b ps rs fault → IsFaultOfJoined (contents keys ps) m fault
+  refused ps (OutputLimit size) fits q ms s = (q.1.0 ∙ joined_size ps (ps ++ unrepeated_parts ps (moved_parts b rs)) ms fits s q.0 refl, q.1.1)
+  refused ps NoMemory fits q ms s = tt

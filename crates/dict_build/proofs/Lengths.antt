@@ -43,7 +43,7 @@ pub shorter_behind : (n : ℕ) (ps qs : List RecordPart) → AreShorter n (ps ++
 shorter_behind n [] qs h = h
 shorter_behind n (p ∷ ps) qs h = shorter_behind n ps qs h.1
 
-shorter_before : (n : ℕ) (ps qs : List RecordPart) → AreShorter n (ps ++ qs) → AreShorter n ps
+pub shorter_before : (n : ℕ) (ps qs : List RecordPart) → AreShorter n (ps ++ qs) → AreShorter n ps
 shorter_before n [] qs h = tt
 shorter_before n (p ∷ ps) qs h = (h.0, shorter_before n ps qs h.1)
 

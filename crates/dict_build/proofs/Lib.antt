@@ -2,6 +2,7 @@ pub mod Results
 pub mod Dictionaries
 pub mod DraftContents
 pub mod Additions
+pub mod LeftOut
 pub mod Acceptance
 pub mod Drafts
 pub mod Joins

@@ -1,5 +1,5 @@
 -- What it is to add the records of a message.
-use Rattle.std.specs.Prelude.{◌≡◌, ℕ, ℤ, ◌+◌, ◌<◌, List, ◌++◌, length, map}
+use Rattle.std.specs.Prelude.{◌≡◌, ℕ, ℤ, ◌+◌, ◌<◌, List, ◌++◌, length, map, drop, Option}
 use Rattle.std.specs.List.{flat_map}
 use Rattle.schema.specs.Each.{Each}
 use Rattle.schema.specs.Messages.{profile, scope_profiles, resource_profiles}
@@ -9,14 +9,17 @@ use Rattle.meaning.specs.Memo.{index_in}
 use Rattle.dict_rec.specs.declared.dictionary.Dictionary.{Dictionary}
 use Rattle.dict_rec.specs.Views.{dictionary_view}
 use Rattle.prof_rec.specs.declared.resource_profiles.ResourceProfiles.{ResourceProfiles}
-use Rattle.prof_rec.specs.Views.{resource_profiles_view}
+use Rattle.prof_rec.specs.Views.{profile_view, resource_profiles_view, scope_profiles_view}
 use Rattle.otlp_msg.specs.Message.{Message, message_limit}
 use Rattle.key_tables.specs.Keys.{at}
+use Rattle.parts.specs.LastHeads.{last_heads, repeated_parts, repeated_scope}
 use Rattle.parts.specs.Parts.{RecordPart}
 use Rattle.parts.specs.Values.{profile_value_part, scope_value_parts, value_parts}
 use Rattle.draft_records.specs.Marks.{back_of, front_of}
 use Rattle.renumber.specs.Walk.{State, WalkedEach}
-use Rattle.dict_build.specs.Contents.{contents, whole_text}
+use Rattle.dict_build.specs.Contents.{Contents, contents, whole_text}
+use Rattle.dict_build.specs.declared.unrepeated.Added.{Added}
+use Rattle.dict_build.specs.declared.unrepeated.Added.TheVariants.{Records, Scopes, Profiles}
 use Rattle.dict_build.specs.declared.fault.BuildFault.{BuildFault}
 use Rattle.dict_build.specs.declared.fault.BuildFault.TheVariants.{OutputLimit, NoMemory}
 
@@ -40,26 +43,46 @@ resources_moved to xs = value_parts (map (moved to resource_profiles) xs)
 abbrev pub moved_parts : State → List (Value resource_profiles) → List RecordPart
 moved_parts w xs = resources_moved (index_in (at w.memo)) xs
 
+-- the parts that are left of some, after those of a draft: all but the heads that repeat the last ones
+abbrev pub unrepeated_parts : List RecordPart → List RecordPart → List RecordPart
+unrepeated_parts before ps = drop (repeated_parts (last_heads before) ps) ps
+
+-- the same after the head of a resource record, where this is the last head of a scope record
+abbrev pub unrepeated_scopes : Option (List ℕ × List ℕ) → List RecordPart → List RecordPart
+unrepeated_scopes last ps = drop (repeated_scope last ps) ps
+
+-- the parts of what a message adds
+abbrev pub added_moved : (Table → ℤ → ℤ) → Added → List RecordPart
+added_moved to (Records resources) = resources_moved to (map resource_profiles_view resources.now)
+added_moved to (Scopes scopes resources) =
+    scopes_moved to (map scope_profiles_view scopes.now) ++ resources_moved to (map resource_profiles_view resources.now)
+added_moved to (Profiles profiles scopes resources) =
+    profiles_moved to (map profile_view profiles.now)
+    ++ (scopes_moved to (map scope_profiles_view scopes.now) ++ resources_moved to (map resource_profiles_view resources.now))
+
 -- the texts of each part are shorter than this
 abbrev pub AreShorter : ℕ → List RecordPart → Type 0
 AreShorter n ps = Each (λ p. length (front_of p) + length (back_of p) < n) ps
 
 -- ---- adding
 
--- The records were walked over, and stand with their new indexes after what was there.
+-- The records were walked over, and stand with their new indexes after what was there, without the heads that they repeat.
 pub record AreRenumbered (a b : State) (before after : List RecordPart) (xs : List (Value resource_profiles)) : Type 0 where
   pub walked : WalkedEach resource_profiles a b xs
-  pub is : after ≡ before ++ moved_parts b xs
+  pub is : after ≡ before ++ unrepeated_parts before (moved_parts b xs)
 
 -- with these records after the parts the whole has so many bytes
 abbrev pub size_with : State → List RecordPart → List (Value resource_profiles) → ℕ
-size_with w before xs = length (whole_text (contents w.keys (before ++ moved_parts w xs)))
+size_with w before xs = length (whole_text (contents w.keys (before ++ unrepeated_parts before (moved_parts w xs))))
 
--- why they are too long: with them the whole has more bytes than a message may have, and their number is told; or it was out of
--- memory
+-- why contents are too long: the whole has more bytes than a message may have, and their number is told; or it was out of memory
+abbrev pub IsLimitOf : Contents → BuildFault → Type 0
+IsLimitOf d (OutputLimit size) = (size ≡ length (whole_text d)) × (message_limit < size)
+IsLimitOf d NoMemory = Unit {0}
+
+-- the same of those with these records after the parts
 abbrev pub IsTooLong : State → List RecordPart → List (Value resource_profiles) → BuildFault → Type 0
-IsTooLong w before xs (OutputLimit size) = (size ≡ size_with w before xs) × (message_limit < size)
-IsTooLong w before xs NoMemory = Unit {0}
+IsTooLong w before xs fault = IsLimitOf (contents w.keys (before ++ unrepeated_parts before (moved_parts w xs))) fault
 
 -- why they are not added: they were walked over, and are too long, or it was out of memory
 abbrev pub IsRefused : State → State → List RecordPart → List (Value resource_profiles) → BuildFault → Type 0

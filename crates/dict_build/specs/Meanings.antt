@@ -1,5 +1,5 @@
 -- Meanings of messages that can be written.
-use Rattle.std.specs.Prelude.{◌≡◌, ℕ, ◌≤◌, List, ◌++◌, length, Ok}
+use Rattle.std.specs.Prelude.{◌≡◌, ℕ, ◌≤◌, List, length, Ok}
 use Rattle.schema.specs.Each.{Each}
 use Rattle.schema.specs.Messages.{resource_profiles}
 use Rattle.meaning.specs.Meaning.{IsMeaning}
@@ -7,6 +7,7 @@ use Rattle.meaning.specs.Message.{meaning_of, meaning_text}
 use Rattle.meaning.specs.Ranges.{HasRange}
 use Rattle.meaning.specs.Tree.{Tree}
 use Rattle.otlp_msg.specs.Message.{Message, message_limit, message_of}
+use Rattle.operations.specs.Seams.{seam}
 
 -- a meaning: resource records, in which each index is replaced by the value of its entry
 abbrev pub Meaning : Type 0
@@ -16,9 +17,9 @@ Meaning = List Tree
 abbrev pub meaning : Message → Meaning
 meaning m = meaning_of resource_profiles m
 
--- a meaning with that of a message at its end
+-- a meaning to which that of a message is joined, with the seam between them closed
 abbrev pub joined : Meaning → Message → Meaning
-joined ms m = ms ++ meaning m
+joined ms m = seam ms (meaning m)
 
 -- the number of canonical bytes of a meaning
 abbrev pub size_of : Meaning → ℕ

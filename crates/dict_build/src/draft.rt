@@ -68,9 +68,10 @@ impl<M: Seeds> Draft<M> {
         whole_len(&self.tables, self.records.text_len())
     }
 
-    /// Adds the resource records of a message after those of the draft. The tables gain what is new in them. It counts at most
-    /// as many table steps as the message's seven tables have entries, plus 8. Whatever the answer, the draft goes on from what
-    /// it was, so its marks stay marks.
+    /// Joins a message to the draft, whose meaning becomes the seam of both: if the last resource record and the message's first
+    /// have equal heads, they become one, and in it so do the last scope record and the first, if their heads are equal. The
+    /// tables gain what is new in the message. It counts at most as many table steps as the message's seven tables have entries,
+    /// plus 8. Whatever the answer, the draft goes on from what it was, so its marks stay marks.
     ///
     /// # Errors
     ///

@@ -10,6 +10,7 @@ pub mod laws;
 mod mark;
 mod measure;
 mod put;
+mod unrepeated;
 
 pub use draft::Draft;
 pub use fault::BuildFault;

@@ -5,8 +5,9 @@ ghost use Rattle.schema.specs.Moved.{moved};
 ghost use Rattle.parts.specs.Sums.{sums_from};
 ghost use Rattle.parts.specs.Values.{profile_value_part, resource_value_parts, scope_value_parts};
 ghost use Rattle.prof_rec.specs.Views.{profile_view, resource_profiles_view, scope_profiles_view};
-ghost use Rattle.dict_build.specs.Adding.{AreShorter, profiles_moved, resources_moved, scopes_moved};
+ghost use Rattle.dict_build.specs.Adding.{AreShorter, added_moved, profiles_moved, resources_moved, scopes_moved};
 
+use crate::unrepeated::Added;
 use draft_records::Totals;
 use pb_wire::{NewIndexes, NoMemory, Rows, message_len, text_len};
 use prof_rec::{Profile, ResourceProfiles, ScopeProfiles};
@@ -16,12 +17,35 @@ const HEAD: u32 = 1;
 
 const SCHEMA_URL: u32 = 3;
 
-/// The sums with resource records more.
+/// The sums with what a message adds.
 ///
 /// # Errors
 ///
 /// Out of memory, where a text has more than 2^58 bytes or the records would come to more than 2^59.
-pub(crate) fn with_resources<I: NewIndexes>(
+pub(crate) fn with_added<I: NewIndexes>(
+    totals: Totals,
+    added: &Added<'_, '_>,
+    indexes: &I,
+) -> Result<Totals, NoMemory>
+    requires { AreShorter (2 ^ 63) (added_moved (I.to indexes.now) added.now) }
+    ensures { IfOk result (λ sums. sums ≡ sums_from totals (added_moved (I.to indexes.now) added.now)) }
+{
+    match *added {
+        Added::Records(resources) => with_resources(totals, resources, indexes),
+        Added::Scopes(scopes, resources) => {
+            let sums = with_scopes(totals, scopes, indexes)?;
+            with_resources(sums, resources, indexes)
+        }
+        Added::Profiles(profiles, scopes, resources) => {
+            let sums = with_profiles(totals, profiles, indexes)?;
+            let more = with_scopes(sums, scopes, indexes)?;
+            with_resources(more, resources, indexes)
+        }
+    }
+}
+
+// The sums with resource records more.
+fn with_resources<I: NewIndexes>(
     totals: Totals,
     records: &[ResourceProfiles<'_>],
     indexes: &I,

@@ -5,18 +5,46 @@ ghost use Rattle.schema.specs.Moved.{moved};
 ghost use Rattle.parts.specs.Values.{resource_value_parts, scope_value_parts};
 ghost use Rattle.prof_rec.specs.Views.{profile_view, resource_profiles_view, scope_profiles_view};
 ghost use Rattle.schema.specs.Prefix.{IsPrefix};
-ghost use Rattle.dict_build.specs.Adding.{AreShorter, profiles_moved, resources_moved, scopes_moved};
+ghost use Rattle.dict_build.specs.Adding.{AreShorter, added_moved, profiles_moved, resources_moved, scopes_moved};
 
+use crate::unrepeated::Added;
 use draft_records::Records;
 use pb_wire::{NewIndexes, NoMemory};
 use prof_rec::{Profile, ResourceProfiles, ScopeProfiles};
 
-/// Puts resource records at the end.
+/// Puts what a message adds at the end.
 ///
 /// # Errors
 ///
 /// Out of memory. What was there is still in front.
-pub(crate) fn put_resources<I: NewIndexes>(
+pub(crate) fn put_added<I: NewIndexes>(
+    records: &mut Records,
+    added: &Added<'_, '_>,
+    indexes: &I,
+) -> Result<(), NoMemory>
+    requires { AreShorter (2 ^ 62) (added_moved (I.to indexes.now) added.now) }
+    ensures ok { OnOk result (records.new ≡ records.old ++ added_moved (I.to indexes.now) added.now) }
+    ensures front { IsPrefix records.old records.new }
+{
+    match *added {
+        Added::Records(resources) => {
+            put_resources(records, resources, indexes)?;
+        }
+        Added::Scopes(scopes, resources) => {
+            put_scopes(records, scopes, indexes)?;
+            put_resources(records, resources, indexes)?;
+        }
+        Added::Profiles(profiles, scopes, resources) => {
+            put_profiles(records, profiles, indexes)?;
+            put_scopes(records, scopes, indexes)?;
+            put_resources(records, resources, indexes)?;
+        }
+    }
+    Ok(())
+}
+
+// Puts resource records at the end.
+fn put_resources<I: NewIndexes>(
     records: &mut Records,
     added: &[ResourceProfiles<'_>],
     indexes: &I,

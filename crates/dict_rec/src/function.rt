@@ -64,6 +64,7 @@ impl<'a> Wire<'a> for Function {
         }
     }
 
+    #[inline(always)]
     fn take(&mut self, _alloc: Global, field: &Field<'a>) -> Result<(), ReadFault> {
         match field.number {
             1 => take_number(&mut self.name_strindex, field),

@@ -53,6 +53,7 @@ impl<'a> Wire<'a> for Line {
         }
     }
 
+    #[inline(always)]
     fn take(&mut self, _alloc: Global, field: &Field<'a>) -> Result<(), ReadFault> {
         match field.number {
             1 => take_number(&mut self.function_index, field),

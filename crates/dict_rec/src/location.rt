@@ -70,6 +70,7 @@ impl<'a> Wire<'a> for Location {
         }
     }
 
+    #[inline(always)]
     fn take(&mut self, alloc: Global, field: &Field<'a>) -> Result<(), ReadFault> {
         match field.number {
             1 => take_number(&mut self.mapping_index, field),

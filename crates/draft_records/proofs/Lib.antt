@@ -1,4 +1,5 @@
 pub mod Bounds
 pub mod Cuts
+pub mod LastPlaces
 pub mod Growth
 pub mod Marks

@@ -1,4 +1,5 @@
 pub mod Running
 pub mod Writes
+pub mod Places
 pub mod Kept
 pub mod Marks

@@ -3,6 +3,7 @@ ghost use Rattle.std.specs.Prelude.{◌≡◌, ◌+◌, ◌≤◌, ◌<◌, ◌^
 ghost use Rattle.schema.specs.Moved.{moved};
 ghost use Rattle.schema.specs.Spell.{spell};
 ghost use Rattle.schema.specs.Texts.{bytes_field};
+ghost use Rattle.parts.specs.LastHeads.{is_head, last_heads};
 ghost use Rattle.parts.specs.Parts.{ProfileText, ResourceBegins, ScopeBegins, parts_text};
 ghost use Rattle.parts.specs.Sums.{sums_of, with_sum};
 ghost use Rattle.part_text.specs.Extents.{back_len, front_len, part_in};
@@ -10,19 +11,22 @@ ghost use Rattle.draft_records.specs.Kept.{IsAwaiting, IsKept, awaited, parts_of
 ghost use Rattle.draft_records.specs.Marks.{CanBeCut, IsMark};
 
 use crate::mark::RecordsMark;
+use crate::places::{HeadPlaces, is_head_at, places_with};
 use crate::put::{put_head, put_profile};
 use crate::totals::Totals;
 use part_text::{Ending, Extent, into_whole_text};
 use pb_wire::{Blob, NewIndexes, NoMemory, Rows, TextRef};
 use std::alloc::Global;
 
-/// The extents, their texts one after the other, the texts that close records one after the other, and the sums.
+/// The extents, their texts one after the other, the texts that close records one after the other, the sums, and where the last
+/// heads stand.
 #[derive(Drop)]
 pub(crate) struct Kept {
     pub extents: Vec<Extent>,
     pub texts: Blob,
     pub backs: Blob,
     pub totals: Totals,
+    pub places: HeadPlaces,
 }
 
 /// No records.
@@ -35,6 +39,10 @@ pub(crate) fn none(alloc: Global) -> Kept
         texts: Blob::begin(alloc),
         backs: Blob::begin(alloc),
         totals: Totals::none(),
+        places: HeadPlaces {
+            resource: None,
+            scope: None,
+        },
     }
 }
 
@@ -49,20 +57,6 @@ fn totals_with(totals: Totals, extent: Extent) -> Result<Totals, NoMemory>
     }
 }
 
-// Puts an extent, whose texts stand at the ends, after the others.
-fn push(kept: &mut Kept, extent: Extent) -> Result<(), NoMemory>
-    requires { IsAwaiting kept.old extent }
-    ensures kept { OnOk result (IsKept kept.new) }
-    ensures ok { OnOk result (parts_of kept.new ≡ parts_of kept.old ++ awaited kept.old extent ∷ []) }
-    ensures waiting { OnErr result (IsAwaiting kept.new extent) }
-    ensures same { OnErr result (parts_of kept.new ≡ parts_of kept.old) }
-{
-    let totals = totals_with(kept.totals, extent)?;
-    kept.extents.push(extent)?;
-    kept.totals = totals;
-    Ok(())
-}
-
 // The lengths of the texts of an extent.
 fn lens(extent: Extent) -> (usize, usize)
     ensures front { result.0 ≡ front_len extent }
@@ -73,6 +67,24 @@ fn lens(extent: Extent) -> (usize, usize)
         Extent::Scope { front, back } => (front as usize, back as usize),
         Extent::Profile { len } => (len as usize, 0),
     }
+}
+
+// Puts an extent, whose texts stand at the ends, after the others.
+fn push(kept: &mut Kept, extent: Extent) -> Result<(), NoMemory>
+    requires { IsAwaiting kept.old extent }
+    ensures kept { OnOk result (IsKept kept.new) }
+    ensures ok { OnOk result (parts_of kept.new ≡ parts_of kept.old ++ awaited kept.old extent ∷ []) }
+    ensures waiting { OnErr result (IsAwaiting kept.new extent) }
+    ensures same { OnErr result (parts_of kept.new ≡ parts_of kept.old) }
+{
+    let totals = totals_with(kept.totals, extent)?;
+    let (front, back) = lens(extent);
+    let front_at = kept.texts.len() - front;
+    let back_at = kept.backs.len() - back;
+    kept.extents.push(extent)?;
+    kept.totals = totals;
+    kept.places = places_with(kept.places, extent, front_at, back_at);
+    Ok(())
 }
 
 // Drops the texts of an extent that is not there.
@@ -105,6 +117,7 @@ fn add_extent(kept: &mut Kept, extent: Extent) -> Result<(), NoMemory>
 }
 
 /// A resource record begins.
+#[tactic(auto, using(schema_laws::proofs::Lengths::bytes_field_len))]
 pub(crate) fn begin_resource<T: Rows, I: NewIndexes>(
     kept: &mut Kept,
     head: &T,
@@ -122,6 +135,7 @@ pub(crate) fn begin_resource<T: Rows, I: NewIndexes>(
 }
 
 /// A scope record begins.
+#[tactic(auto, using(schema_laws::proofs::Lengths::bytes_field_len))]
 pub(crate) fn begin_scope<T: Rows, I: NewIndexes>(
     kept: &mut Kept,
     head: &T,
@@ -154,6 +168,54 @@ pub(crate) fn add_profile<T: Rows, I: NewIndexes>(
     add_extent(kept, Extent::Profile { len })
 }
 
+/// Whether the last resource record begins with this head.
+pub(crate) fn is_last_resource<T: Rows, I: NewIndexes>(
+    kept: &mut Kept,
+    head: &T,
+    schema_url: &TextRef<'_>,
+    indexes: &I,
+) -> Result<bool, NoMemory>
+    requires kept { IsKept kept.old }
+    requires room { length (bytes_field 1 (spell T.shape (moved (I.to indexes.now) T.shape (T.view head.now)))) < 2 ^ 63 }
+    ensures kept { IsKept kept.new }
+    ensures is { IfOk result (λ b. b ≡ is_head (last_heads (parts_of kept.old)).resource (bytes_field 1 (spell T.shape (moved (I.to indexes.now) T.shape (T.view head.now)))) (bytes_field 3 schema_url.now)) }
+    ensures same { parts_of kept.new ≡ parts_of kept.old }
+{
+    let place = kept.places.resource;
+    is_head_at(
+        &mut kept.texts,
+        &mut kept.backs,
+        place,
+        head,
+        schema_url,
+        indexes,
+    )
+}
+
+/// Whether the last scope record of the last resource record begins with this head.
+pub(crate) fn is_last_scope<T: Rows, I: NewIndexes>(
+    kept: &mut Kept,
+    head: &T,
+    schema_url: &TextRef<'_>,
+    indexes: &I,
+) -> Result<bool, NoMemory>
+    requires kept { IsKept kept.old }
+    requires room { length (bytes_field 1 (spell T.shape (moved (I.to indexes.now) T.shape (T.view head.now)))) < 2 ^ 63 }
+    ensures kept { IsKept kept.new }
+    ensures is { IfOk result (λ b. b ≡ is_head (last_heads (parts_of kept.old)).scope (bytes_field 1 (spell T.shape (moved (I.to indexes.now) T.shape (T.view head.now)))) (bytes_field 3 schema_url.now)) }
+    ensures same { parts_of kept.new ≡ parts_of kept.old }
+{
+    let place = kept.places.scope;
+    is_head_at(
+        &mut kept.texts,
+        &mut kept.backs,
+        place,
+        head,
+        schema_url,
+        indexes,
+    )
+}
+
 /// Takes memory for so many more bytes of texts at once.
 pub(crate) fn reserve(kept: &mut Kept, more: usize) -> Result<(), NoMemory>
     requires { IsKept kept.old }
@@ -182,6 +244,7 @@ pub(crate) fn mark(kept: &Kept) -> RecordsMark
         texts: kept.texts.len(),
         backs: kept.backs.len(),
         totals: kept.totals,
+        places: kept.places,
     }
 }
 
@@ -196,6 +259,7 @@ pub(crate) fn back_to(kept: &mut Kept, mark: RecordsMark)
     kept.texts.truncate(mark.texts);
     kept.backs.truncate(mark.backs);
     kept.totals = mark.totals;
+    kept.places = mark.places;
 }
 
 /// The text of the records and the ending after it, in the memory of the texts; or what was kept.
@@ -211,6 +275,7 @@ pub(crate) fn finish<E: Ending>(kept: Kept, ending: &E) -> Result<Blob, Kept>
         texts,
         backs,
         totals,
+        places,
     } = kept;
     match into_whole_text(texts, &extents, backs.as_slice(), len, ending) {
         Ok(text) => Ok(text),
@@ -219,6 +284,7 @@ pub(crate) fn finish<E: Ending>(kept: Kept, ending: &E) -> Result<Blob, Kept>
             texts,
             backs,
             totals,
+            places,
         }),
     }
 }

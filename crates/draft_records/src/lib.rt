@@ -5,6 +5,7 @@
 mod kept;
 mod laws;
 mod mark;
+mod places;
 mod put;
 mod records;
 mod running;

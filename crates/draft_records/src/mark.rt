@@ -1,4 +1,5 @@
 //! Marks of records.
+use crate::places::HeadPlaces;
 use crate::totals::Totals;
 use std::marker::Model;
 
@@ -9,6 +10,7 @@ pub struct RecordsMark {
     pub(crate) texts: usize,
     pub(crate) backs: usize,
     pub(crate) totals: Totals,
+    pub(crate) places: HeadPlaces,
 }
 
 impl Model for RecordsMark {
@@ -16,7 +18,7 @@ impl Model for RecordsMark {
 
     ghost Value = { Mark };
 
-    ghost view = { λ m. record { extents = m.extents; texts = m.texts; backs = m.backs; totals = m.totals } };
+    ghost view = { λ m. record { extents = m.extents; texts = m.texts; backs = m.backs; totals = m.totals; places = m.places } };
 
-    ghost inverse = { λ m. record { extents = m.extents; texts = m.texts; backs = m.backs; totals = m.totals } };
+    ghost inverse = { λ m. record { extents = m.extents; texts = m.texts; backs = m.backs; totals = m.totals; places = m.places } };
 }

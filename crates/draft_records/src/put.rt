@@ -24,13 +24,12 @@ fn counted(run: &mut Blob, begin: usize) -> Result<u32, NoMemory>
 }
 
 // Puts the row of a head at the end, all of it or nothing, and answers its length.
-#[tactic(auto, using(schema_laws::proofs::Lengths::bytes_field_len))]
 fn put_front<T: Rows, I: NewIndexes>(
     texts: &mut Blob,
     head: &T,
     indexes: &I,
 ) -> Result<u32, NoMemory>
-    requires { length (spell T.shape (moved (I.to indexes.now) T.shape (T.view head.now))) < 2 ^ 62 }
+    requires { length (bytes_field 1 (spell T.shape (moved (I.to indexes.now) T.shape (T.view head.now)))) < 2 ^ 63 }
     ensures ok { IfOk result (IsPut texts.old (bytes_field 1 (spell T.shape (moved (I.to indexes.now) T.shape (T.view head.now)))) texts.new) }
     ensures err { OnErr result (texts.new ≡ texts.old) }
 {
@@ -66,7 +65,7 @@ pub(crate) fn put_head<T: Rows, I: NewIndexes>(
     schema_url: &TextRef<'_>,
     indexes: &I,
 ) -> Result<(u32, u32), NoMemory>
-    requires { length (spell T.shape (moved (I.to indexes.now) T.shape (T.view head.now))) < 2 ^ 62 }
+    requires { length (bytes_field 1 (spell T.shape (moved (I.to indexes.now) T.shape (T.view head.now)))) < 2 ^ 63 }
     ensures front { IfOk result (λ lens. IsPut texts.old (bytes_field 1 (spell T.shape (moved (I.to indexes.now) T.shape (T.view head.now)))) texts.new lens.0) }
     ensures back { IfOk result (λ lens. IsPut backs.old (bytes_field 3 schema_url.now) backs.new lens.1) }
     ensures same_texts { OnErr result (texts.new ≡ texts.old) }

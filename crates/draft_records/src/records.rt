@@ -3,13 +3,14 @@ ghost use Rattle.std.specs.Prelude.{◌≡◌, ◌≤◌, ◌<◌, ◌^◌, ◌+
 ghost use Rattle.schema.specs.Moved.{moved};
 ghost use Rattle.schema.specs.Spell.{spell};
 ghost use Rattle.schema.specs.Texts.{bytes_field};
+ghost use Rattle.parts.specs.LastHeads.{is_head, last_heads};
 ghost use Rattle.parts.specs.Parts.{ProfileText, ResourceBegins, ScopeBegins, parts_text};
 ghost use Rattle.parts.specs.Sums.{sums_of};
 ghost use Rattle.draft_records.specs.Marks.{CanBeCut, IsMark};
 
 use crate::kept::{
-    Kept, add_profile, back_to, begin_resource, begin_scope, finish, mark, none, reserve, text,
-    text_len,
+    Kept, add_profile, back_to, begin_resource, begin_scope, finish, is_last_resource,
+    is_last_scope, mark, none, reserve, text, text_len,
 };
 use crate::mark::RecordsMark;
 use crate::totals::Totals;
@@ -98,6 +99,45 @@ impl Records {
         ensures same { OnErr result (self.new ≡ self.old) }
     {
         add_profile(&mut self.kept, profile, indexes)
+    }
+
+    /// Whether the last resource record has this head, written with new indexes, and this schema URL: `false` where there is none.
+    /// The head is written at the end, compared as bytes, and dropped: it costs the length of the head, however many records there
+    /// are. The records stay as they are, also after an error.
+    ///
+    /// # Errors
+    ///
+    /// Out of memory.
+    pub fn is_last_resource<T: Rows, I: NewIndexes>(
+        &mut self,
+        head: &T,
+        schema_url: &TextRef<'_>,
+        indexes: &I,
+    ) -> Result<bool, NoMemory>
+        requires room { length (bytes_field 1 (spell T.shape (moved (I.to indexes.now) T.shape (T.view head.now)))) < 2 ^ 63 }
+        ensures is { IfOk result (λ b. b ≡ is_head (last_heads self.old).resource (bytes_field 1 (spell T.shape (moved (I.to indexes.now) T.shape (T.view head.now)))) (bytes_field 3 schema_url.now)) }
+        ensures same { self.new ≡ self.old }
+    {
+        is_last_resource(&mut self.kept, head, schema_url, indexes)
+    }
+
+    /// Whether the last scope record of the last resource record has this head and this schema URL: `false` where that has none
+    /// yet. It costs what `is_last_resource` does. The records stay as they are, also after an error.
+    ///
+    /// # Errors
+    ///
+    /// Out of memory.
+    pub fn is_last_scope<T: Rows, I: NewIndexes>(
+        &mut self,
+        head: &T,
+        schema_url: &TextRef<'_>,
+        indexes: &I,
+    ) -> Result<bool, NoMemory>
+        requires room { length (bytes_field 1 (spell T.shape (moved (I.to indexes.now) T.shape (T.view head.now)))) < 2 ^ 63 }
+        ensures is { IfOk result (λ b. b ≡ is_head (last_heads self.old).scope (bytes_field 1 (spell T.shape (moved (I.to indexes.now) T.shape (T.view head.now)))) (bytes_field 3 schema_url.now)) }
+        ensures same { self.new ≡ self.old }
+    {
+        is_last_scope(&mut self.kept, head, schema_url, indexes)
     }
 
     /// Takes memory for so many more bytes of fronts and profiles at once. The records stay as they are.

@@ -4,21 +4,19 @@ ghost use Rattle.schema.specs.Texts.{items_text, long_field};
 ghost use Rattle.schema.specs.Tables.{field_of};
 ghost use Rattle.pb_wire.specs.TableKinds.{place_of, table_of};
 ghost use Rattle.schema.specs.Prefix.{IsPrefix};
-ghost use Rattle.tables.specs.KeyBytes.{bytes_of};
 ghost use Rattle.key_tables.specs.Keys.{InternedIn, cut_to, lengths, text_from};
 
 use crate::ByTable;
 use pb_wire::{Blob, NoMemory, Payload, TableKind, long_len, put_field};
-use std::alloc::Global;
 use std::hash::BuildHasher;
 use std::sync::ledger::Ledger;
-use tables::{EntryKey, Interner, KeyBytes, Mark, Steps, Table};
+use tables::{BytesTable, Mark, Steps};
 
 // The greatest number of entries of a table, whose indexes have 31 bits.
 const MOST_ENTRIES: u32 = 0x7FFF_FFFF;
 
 /// The tables of a new dictionary.
-pub(crate) type Tables<S> = ByTable<Table<EntryKey, S>>;
+pub(crate) type Tables<S> = ByTable<BytesTable<S>>;
 
 /// The length of an entry of these bytes with its tag and length, in bytes.
 pub(crate) fn entry_len(kind: TableKind, key: &[u8]) -> u64
@@ -30,14 +28,13 @@ pub(crate) fn entry_len(kind: TableKind, key: &[u8]) -> u64
 
 /// The place of a key in its table, where it goes to the end if it is new. A full table answers `NoMemory`.
 pub(crate) fn intern_in<S: BuildHasher + Drop, L: Ledger>(
-    alloc: Global,
     tables: &mut Tables<S>,
     kind: TableKind,
-    key: KeyBytes<'_>,
+    key: &[u8],
     steps: &mut Steps<L>,
 ) -> Result<u32, NoMemory>
     requires { length tables.old ≡ 7 }
-    ensures interned { IfOk result (InternedIn (place_of (table_of kind)) tables.old (bytes_of key.entry) tables.new) }
+    ensures interned { IfOk result (InternedIn (place_of (table_of kind)) tables.old key.now tables.new) }
     ensures same { OnErr result (tables.new ≡ tables.old) }
     ensures steps { steps.new ≤ steps.old + 1 }
 {
@@ -45,10 +42,7 @@ pub(crate) fn intern_in<S: BuildHasher + Drop, L: Ledger>(
     if table.len() >= MOST_ENTRIES {
         return Err(NoMemory);
     }
-    match key {
-        KeyBytes::Owned(bytes) => table.intern(EntryKey::from_blob(bytes), steps),
-        KeyBytes::Borrowed(bytes) => table.intern_copy(alloc, bytes, steps),
-    }
+    table.intern(key, steps)
 }
 
 /// The numbers of keys.
@@ -81,7 +75,7 @@ pub(crate) fn cut_back<S: BuildHasher + Drop>(tables: &mut Tables<S>, marks: &[M
 /// Puts all keys at the end, each after its tag and length, in the order of the tables' fields.
 pub(crate) fn put_tables<S: BuildHasher + Drop>(
     out: &mut Blob,
-    tables: &[Table<EntryKey, S>],
+    tables: &[BytesTable<S>],
 ) -> Result<(), NoMemory>
     requires { length tables.now ≡ 7 }
     ensures front { IsPrefix out.old out.new }
@@ -99,7 +93,7 @@ pub(crate) fn put_tables<S: BuildHasher + Drop>(
 fn put_table<S: BuildHasher + Drop>(
     out: &mut Blob,
     number: u32,
-    table: &Table<EntryKey, S>,
+    table: &BytesTable<S>,
 ) -> Result<(), NoMemory>
     requires above { 1 ≤ number }
     requires below { number ≤ 536870911 }
@@ -118,7 +112,7 @@ fn put_table<S: BuildHasher + Drop>(
 fn put_key<S: BuildHasher + Drop>(
     out: &mut Blob,
     number: u32,
-    table: &Table<EntryKey, S>,
+    table: &BytesTable<S>,
     place: u32,
 ) -> Result<(), NoMemory>
     requires above { 1 ≤ number }
@@ -128,7 +122,7 @@ fn put_key<S: BuildHasher + Drop>(
     ensures err { OnErr result (out.new ≡ out.old) }
 {
     match table.get(place) {
-        Some(key) => put_field(out, number, &Payload::Bytes(key.as_slice())),
+        Some(key) => put_field(out, number, &Payload::Bytes(key)),
         None => Ok(()),
     }
 }

@@ -3,7 +3,6 @@ ghost use Rattle.std.specs.Prelude.{◌≡◌, ◌+◌, ◌<◌, ◌≤◌, ◌+
 ghost use Rattle.schema.specs.Shape.{Table as OfSchema};
 ghost use Rattle.schema.specs.Tables.{same_table};
 ghost use Rattle.pb_wire.specs.TableKinds.{table_of};
-ghost use Rattle.tables.specs.KeyBytes.{bytes_of};
 ghost use Rattle.tables.specs.Keys.{Interned};
 ghost use Rattle.schema.specs.Prefix.{IsPrefix};
 ghost use Rattle.key_tables.specs.Keys.{AreFew, ArePrefixes, CanBeCut, IsMark, Keys, at, cut_to, keys_text, lengths, zero_keys};
@@ -16,7 +15,7 @@ use std::hash::BuildHasher;
 use std::marker::Model;
 use std::mem;
 use std::sync::ledger::Ledger;
-use tables::{Interner, KeyBytes, Steps};
+use tables::Steps;
 
 // The greatest length of a spelling.
 const MOST_BYTES: u64 = 0x4000_0000_0000_0000;
@@ -71,17 +70,15 @@ impl<S: BuildHasher + Drop> KeyTables<S> {
     ///
     /// # Errors
     ///
-    /// Out of memory. A full table, and tables whose spelling could pass 2^62 bytes, answer this too. The tables are as before,
-    /// and the bytes are dropped.
+    /// Out of memory. A full table, and tables whose spelling could pass 2^62 bytes, answer this too. The tables are as before.
     pub fn intern<L: Ledger>(
         &mut self,
-        alloc: Global,
         kind: TableKind,
-        key: KeyBytes<'_>,
+        key: &[u8],
         steps: &mut Steps<L>,
     ) -> Result<u32, NoMemory>
         requires { length self.old ≡ 7 }
-        ensures interned { IfOk result (Interned (at self.old (table_of kind)) (bytes_of key.entry) (at self.new (table_of kind))) }
+        ensures interned { IfOk result (Interned (at self.old (table_of kind)) key.now (at self.new (table_of kind))) }
         ensures others { OnOk result ((T : OfSchema) → same_table T (table_of kind) ≡ false → at self.new T ≡ at self.old T) }
         ensures same { OnErr result (self.new ≡ self.old) }
         ensures few { AreFew self.new }
@@ -89,12 +86,12 @@ impl<S: BuildHasher + Drop> KeyTables<S> {
         ensures seven { length self.new ≡ 7 }
         ensures steps { steps.new ≤ steps.old + 1 }
     {
-        let more = entry_len(kind, key.as_slice());
+        let more = entry_len(kind, key);
         if self.len + more > MOST_BYTES {
             return Err(NoMemory);
         }
         let count = self.tables.get(kind).len();
-        let place = intern_in(alloc, &mut self.tables, kind, key, steps)?;
+        let place = intern_in(&mut self.tables, kind, key, steps)?;
         if place < count {
             return Ok(place);
         }

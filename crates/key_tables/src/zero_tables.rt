@@ -5,9 +5,9 @@ ghost use Rattle.key_tables.specs.Keys.{zero_keys};
 use crate::filling::Tables;
 use crate::{ByTable, KeyTables};
 use outside::Seeds;
-use pb_wire::{Blob, NoMemory};
+use pb_wire::NoMemory;
 use std::alloc::Global;
-use tables::{EntryKey, Table};
+use tables::BytesTable;
 
 // How many tables a dictionary has.
 const TABLES: usize = 7;
@@ -25,10 +25,7 @@ pub fn begin_tables<M: Seeds>(alloc: Global, seeds: &mut M) -> Result<KeyTables<
 }
 
 // Seven tables of their zero entries alone.
-fn zero_tables<M: Seeds>(
-    alloc: Global,
-    seeds: &mut M,
-) -> Result<Vec<Table<EntryKey, M::H>>, NoMemory>
+fn zero_tables<M: Seeds>(alloc: Global, seeds: &mut M) -> Result<Vec<BytesTable<M::H>>, NoMemory>
     ensures { IfOk result (λ v. v.items ≡ zero_keys) }
 {
     let mut items = Vec::with_capacity(alloc, TABLES)?;
@@ -44,12 +41,11 @@ fn zero_tables<M: Seeds>(
 fn add_zero_table<M: Seeds>(
     alloc: Global,
     seeds: &mut M,
-    items: &mut Vec<Table<EntryKey, M::H>>,
+    items: &mut Vec<BytesTable<M::H>>,
 ) -> Result<(), NoMemory>
     ensures { OnOk result (items.new.items ≡ items.old.items ++ ([] ∷ []) ∷ []) }
 {
-    let zero = EntryKey::from_blob(Blob::begin(alloc));
-    let table = Table::start(alloc, seeds.hasher()?, zero)?;
+    let table = BytesTable::start(alloc, seeds.hasher()?, &[])?;
     items.push(table)?;
     Ok(())
 }

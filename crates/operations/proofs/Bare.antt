@@ -1,5 +1,6 @@
 -- The profiles of joined meanings.
 use Rattle.std.proofs.Common.{◌≡◌, ℕ, suc, List, [], ◌∷◌, ◌++◌, map, Bool, true, false, cond, refl, sym, ap, ◌∙◌, append_assoc}
+use Rattle.std.proofs.lemmas.Grind.{flat_map-append}
 use Rattle.std.proofs.lemmas.List.{append-nil, map-append}
 use Rattle.std.specs.List.{flat_map}
 use Rattle.meaning.specs.Tree.{Tree}
@@ -8,7 +9,7 @@ use Rattle.meaning.proofs.Trees.{same-true}
 use Rattle.parts.specs.Records.{held}
 use Rattle.operations.specs.Outlines.{head}
 use Rattle.operations.specs.Flat.{flat_profile, flat_scopes, flat_resources, flat, bare}
-use Rattle.operations.specs.Seams.{append_joining, same_head, joined_scope, joined_resource, seam, join_onto, join}
+use Rattle.operations.specs.Seams.{append_joining, same_head, joined_scope, joined_resource, seam, join_onto, join, joined_under, under_last}
 use Rattle.operations.proofs.Joining.{held-holding}
 
 abbrev pub Bare : Type 0
@@ -84,3 +85,15 @@ each-one (m ∷ ms) =
 
 pub flat-join : (ms : List (List Tree)) → map bare (flat (join ms ∷ [])) ≡ flat_map (λ m. map bare (flat (m ∷ []))) ms
 flat-join ms = bare-one (join ms) ∙ join-all ms [] ∙ sym (each-one ms)
+
+-- ---- and of two of which the one comes under the last resource record of the other
+
+resources-under : (r s : Tree) → same_head r s ≡ true → in_resource (joined_under r s) ≡ in_resource r ++ in_resource s
+resources-under r s e =
+    ap (flat_map (in_scope (head r))) (held-holding r (held r ++ held s)) ∙ flat_map-append (in_scope (head r)) (held r) (held s)
+    ∙ ap (λ x. in_resource r ++ flat_map (in_scope x) (held s)) (same-true (head r) (head s) e)
+
+pub flat-under : (a b : List Tree) → map bare (flat (under_last a b ∷ [])) ≡ map bare (flat (a ∷ [])) ++ map bare (flat (b ∷ []))
+flat-under a b =
+    bare-one (under_last a b) ∙ joining-all same_head joined_under in_resource resources-under a b
+    ∙ ap (λ l. l ++ flat_map in_resource b) (sym (bare-one a)) ∙ ap (λ l. map bare (flat (a ∷ [])) ++ l) (sym (bare-one b))

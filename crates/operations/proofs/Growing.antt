@@ -6,12 +6,12 @@ use Rattle.meaning.specs.Tree.{Tree}
 use Rattle.meaning.specs.Message.{meaning_text}
 use Rattle.meaning.proofs.Soundness.{records_sound}
 use Rattle.operations.specs.Outlines.{Item, outline}
-use Rattle.operations.specs.Seams.{seam, join_onto, join, repeated_heads}
+use Rattle.operations.specs.Seams.{seam, join_onto, join, under_last, repeated_heads, repeated_resource}
 use Rattle.operations.specs.Flat.{FlatProfile, items, group}
 use Rattle.operations.specs.Cuts.{size_of}
 use Rattle.operations.proofs.Longer.{longer}
 use Rattle.operations.proofs.Grouped.{bared, group-outline, items-append}
-use Rattle.operations.proofs.Joining.{seam-outline, join-append}
+use Rattle.operations.proofs.Joining.{seam-outline, under-outline, join-append}
 
 -- with the schema's records
 pub longer_records : (ms ns : List Tree) (more : List Item) → outline ns ≡ outline ms ++ more
@@ -20,6 +20,9 @@ longer_records ms ns more e = longer resource scope profile tt tt tt refl refl r
 
 pub seam-longer : (a b : List Tree) → length (meaning_text resource_profiles a) ≤ length (meaning_text resource_profiles (seam a b))
 seam-longer a b = longer_records a (seam a b) (drop (repeated_heads a b) (outline b)) (seam-outline a b)
+
+pub under-longer : (a b : List Tree) → length (meaning_text resource_profiles a) ≤ length (meaning_text resource_profiles (under_last a b))
+under-longer a b = longer_records a (under_last a b) (drop (repeated_resource a b) (outline b)) (under-outline a b)
 
 join_onto-longer : (ns : List (List Tree)) (a : List Tree) → length (meaning_text resource_profiles a) ≤ length (meaning_text resource_profiles (join_onto a ns))
 join_onto-longer [] a = omega arith

@@ -1,10 +1,11 @@
 -- The heads of messages that can be written.
-use Rattle.std.proofs.Common.{◌≡◌, ℕ, ◌<◌, ◌^◌, List, [], ◌∷◌, length, map, Bool, true, false, cond, refl, sym, ap, subst, ◌∙◌}
+use Rattle.std.proofs.Common.{◌≡◌, ℕ, ◌<◌, ◌^◌, List, [], ◌∷◌, ◌++◌, length, map, Bool, true, false, cond, refl, sym, ap, subst, ◌∙◌}
 use Rattle.schema.specs.Each.{Each}
 use Rattle.schema.specs.Fits.{Fits}
 use Rattle.schema.specs.Messages.{profile, scope, scope_profiles, resource, resource_profiles}
 use Rattle.schema.specs.Shape.{Shape, Text, End, One, Value}
 use Rattle.schema.specs.Spell.{spell}
+use Rattle.schema_laws.proofs.Lists.{each_append}
 use Rattle.meaning.specs.Tree.{Tree, Octets, Nil, Cons, listed, tree, value, IsOf}
 use Rattle.meaning.specs.Tables.{Tables}
 use Rattle.meaning.specs.Meaning.{resolve}
@@ -15,8 +16,9 @@ use Rattle.meaning.proofs.Rows.{resolve-plain}
 use Rattle.meaning.proofs.Trees.{value-tree, elements-listed}
 use Rattle.parts.specs.Records.{holder, held}
 use Rattle.operations.proofs.Renumbered.{elements-each}
+use Rattle.operations.specs.Outlines.{holding}
 use Rattle.operations.specs.Heads.{head_shape, HeadFits, HeadsFit}
-use Rattle.operations.specs.Seams.{append_joining, same_head, joined_scope, joined_resource, seam}
+use Rattle.operations.specs.Seams.{append_joining, same_head, joined_scope, joined_resource, seam, joined_under, under_last}
 use Rattle.operations.proofs.Joining.{held-holding}
 
 -- ---- those of a message
@@ -64,10 +66,10 @@ records-fit d (x ∷ xs) f = (
 pub message-heads : (x : Value (message resource_profiles)) → Fits (message resource_profiles) x → HeadsFit (meaning_of resource_profiles x)
 message-heads x f = records-fit (tables_in x.1.0) x.0 f.0
 
--- ---- those of a seam
+-- ---- those of joined meanings
 
 -- where joined elements have what both have
-joining-fit : (P : Tree → Type 0) (alike : Tree → Tree → Bool) (joined : Tree → Tree → Tree) → ((r s : Tree) → P r → P s → P (joined r s))
+pub joining-fit : (P : Tree → Type 0) (alike : Tree → Tree → Bool) (joined : Tree → Tree → Tree) → ((r s : Tree) → P r → P s → P (joined r s))
     → (a b : List Tree) → Each P a → Each P b → Each P (append_joining alike joined a b)
 joining-fit P alike joined h [] b f g = g
 joining-fit P alike joined h (r ∷ []) [] f g = f
@@ -78,12 +80,27 @@ joining-fit P alike joined h (r ∷ []) (s ∷ b) f g = by_test (alike r s)
     by_test false = (f.0, g)
 joining-fit P alike joined h (r ∷ q ∷ a) b f g = (f.0, joining-fit P alike joined h (q ∷ a) b f.1 g)
 
+-- a resource record's head and those of its scope records
+abbrev RecordFits : Tree → Type 0
+RecordFits r = HeadFits resource r × Each (HeadFits scope) (held r)
+
+-- a record that fits still fits when it holds other scope records whose heads do
+held-fit : (r : Tree) (ss : List Tree) → RecordFits r → Each (HeadFits scope) ss → RecordFits (holding r ss)
+held-fit r ss f g = (f.0, subst (Each (HeadFits scope)) (sym (held-holding r ss)) g)
+
 pub seam-heads : (a b : List Tree) → HeadsFit a → HeadsFit b → HeadsFit (seam a b)
 seam-heads a b f g =
-    joining-fit (λ r. HeadFits resource r × Each (HeadFits scope) (held r)) same_head joined_resource
-    (λ r s x y. (
-      x.0,
-      subst (Each (HeadFits scope)) (sym (held-holding r (append_joining same_head joined_scope (held r) (held s))))
-          (joining-fit (HeadFits scope) same_head joined_scope (λ p q u v. u) (held r) (held s) x.1 y.1),
-    ))
+    joining-fit RecordFits same_head joined_resource
+    (λ r s x y.
+    held-fit r (append_joining same_head joined_scope (held r) (held s)) x
+    (joining-fit (HeadFits scope) same_head joined_scope (λ p q u v. u) (held r) (held s) x.1 y.1))
     a b f g
+
+pub under-heads : (a b : List Tree) → HeadsFit a → HeadsFit b → HeadsFit (under_last a b)
+under-heads a b f g =
+    joining-fit RecordFits same_head joined_under
+    (λ r s x y. held-fit r (held r ++ held s) x (each_append (HeadFits scope) (held r) (held s) x.1 y.1))
+    a b f g
+
+pub append-heads : (a b : List Tree) → HeadsFit a → HeadsFit b → HeadsFit (a ++ b)
+append-heads a b f g = each_append RecordFits a b f g

@@ -1,12 +1,13 @@
 -- Lists that are appended, with the two that meet joined.
 use Rattle.std.proofs.Common.{◌≡◌, ℕ, suc, ◌≤◌, List, [], ◌∷◌, ◌++◌, length, map, drop, Bool, true, false, cond, refl, sym, ap, ◌∙◌, arith, append_assoc}
+use Rattle.std.proofs.lemmas.Grind.{flat_map-append}
 use Rattle.std.proofs.lemmas.List.{append-nil, map-append, drop-append-le}
 use Rattle.std.specs.List.{flat_map}
 use Rattle.meaning.specs.Tree.{Tree}
 use Rattle.meaning.proofs.Trees.{elements-listed}
 use Rattle.parts.specs.Records.{held}
 use Rattle.operations.specs.Outlines.{head, holding, ResourceItem, ScopeItem, profile_item, scope_outline, resource_outline, outline}
-use Rattle.operations.specs.Seams.{append_joining, same_head, joined_scope, joined_resource, seam, join_onto, repeats, repeated_heads}
+use Rattle.operations.specs.Seams.{append_joining, same_head, joined_scope, joined_resource, seam, join_onto, joined_under, under_last, repeats, repeated_heads, repeated_resource}
 
 -- ---- what the definitions say
 
@@ -62,7 +63,7 @@ scopes-go_on : (r s : Tree) → scope_outline (joined_scope r s) ≡ scope_outli
 scopes-go_on r s =
     ap (λ l. ScopeItem (head r) ∷ l) (ap (map profile_item) (held-holding r (held r ++ held s)) ∙ map-append profile_item (held r) (held s))
 
-abbrev repeated_scopes : Tree → Tree → ℕ
+abbrev pub repeated_scopes : Tree → Tree → ℕ
 repeated_scopes r s = repeats same_head (λ q t. 0) (held r) (held s)
 
 scopes-append_joining : (a b : List Tree) → flat_map scope_outline (append_joining same_head joined_scope a b)
@@ -88,3 +89,11 @@ few (r ∷ q ∷ a) b = few (q ∷ a) b
 pub seam-outline : (a b : List Tree) → outline (seam a b) ≡ outline a ++ drop (repeated_heads a b) (outline b)
 seam-outline a b =
     joining-items same_head joined_resource repeated_scopes resource_outline resources-go_on (λ r s. let f = few (held r) (held s) in omega arith) a b
+
+under-go_on : (r s : Tree) → resource_outline (joined_under r s) ≡ resource_outline r ++ drop 1 (resource_outline s)
+under-go_on r s =
+    ap (λ l. ResourceItem (head r) ∷ l)
+    (ap (flat_map scope_outline) (held-holding r (held r ++ held s)) ∙ flat_map-append scope_outline (held r) (held s))
+
+pub under-outline : (a b : List Tree) → outline (under_last a b) ≡ outline a ++ drop (repeated_resource a b) (outline b)
+under-outline a b = joining-items same_head joined_under (λ r s. 0) resource_outline under-go_on (λ r s. omega arith) a b

@@ -12,3 +12,4 @@ pub mod Apart
 pub mod Repeated
 pub mod PartProfiles
 pub mod Regrouped
+pub mod Meanings

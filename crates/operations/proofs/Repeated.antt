@@ -1,4 +1,4 @@
--- The heads that a seam leaves out, by their texts.
+-- The heads that are left out, by their texts.
 use Rattle.std.proofs.Common.{◌≡◌, ℕ, suc, List, [], ◌∷◌, ◌++◌, map, drop, Option, Some, None, Bool, true, false, ◌&&◌, cond, refl, sym, ap, ◌∙◌, append_assoc}
 use Rattle.std.specs.List.{flat_map}
 use Rattle.std.specs.Str.{bytes_eq}
@@ -12,15 +12,16 @@ use Rattle.meaning.specs.Tree.{Tree}
 use Rattle.meaning.specs.Tables.{Tables}
 use Rattle.meaning.specs.Canonical.{renumber, values}
 use Rattle.meaning.specs.Renumbering.{IsDeduplicated, Drafted, WrittenEach}
-use Rattle.parts.specs.Parts.{RecordPart}
-use Rattle.parts.specs.LastHeads.{LastHeads, no_heads, heads_from, last_heads, is_head, repeated_parts, repeated_scope}
+use Rattle.parts.specs.Parts.{RecordPart, ResourceBegins, ScopeBegins, ProfileText}
+use Rattle.parts.specs.LastHeads.{LastHeads, no_heads, heads_from, last_heads, is_head, repeated_parts, repeated_scope, repeated_head}
 use Rattle.parts.specs.Records.{held, front, back, record_parts}
 use Rattle.operations.specs.Outlines.{Item, profile_item, scope_outline, outline, item_part}
 use Rattle.operations.proofs.Renumbered.{parts-outline}
 use Rattle.operations.specs.Heads.{HeadFits, HeadsFit, head_shape}
-use Rattle.operations.specs.Seams.{seam, same_head, repeats, repeated_heads}
+use Rattle.operations.specs.Seams.{seam, under_last, same_head, repeats, repeated_heads, repeated_resource}
+use Rattle.operations.proofs.Joining.{repeated_scopes}
 use Rattle.operations.proofs.Apart.{same-texts, same-heads}
-use Rattle.operations.proofs.Drafts.{joined_draft}
+use Rattle.operations.proofs.Drafts.{joined_draft, under_draft}
 
 -- ---- heads
 
@@ -100,37 +101,88 @@ scopes-repeated w o (s ∷ []) (t ∷ ts) rest a b n =
     ap (λ x. cond x 1 0) (heads-by-texts scope tt (lawful_from (head_shape scope) refl) s t a.0 b.0)
 scopes-repeated w o (s ∷ q ∷ ss) ts rest a b n = scopes-repeated w (Some (texts scope s)) (q ∷ ss) ts rest a.1 b (λ e. cc)
 
+-- how many parts begin a resource record with the last texts, and then what `found` says of those after it
+abbrev parts_found : (Option (List ℕ × List ℕ) → List RecordPart → ℕ) → LastHeads → List RecordPart → ℕ
+parts_found found l (ResourceBegins f b ∷ ps) = cond (is_head l.resource f b) (suc (found l.scope ps)) 0
+parts_found found l ps = 0
+
+parts-found : (l : LastHeads) (ps : List RecordPart) → parts_found repeated_scope l ps ≡ repeated_parts l ps
+parts-found l [] = refl
+parts-found l (ResourceBegins f b ∷ ps) = refl
+parts-found l (ScopeBegins f b ∷ ps) = refl
+parts-found l (ProfileText p ∷ ps) = refl
+
+head-found : (l : LastHeads) (ps : List RecordPart) → parts_found (λ o qs. 0) l ps ≡ repeated_head l ps
+head-found l [] = refl
+head-found l (ResourceBegins f b ∷ ps) = refl
+head-found l (ScopeBegins f b ∷ ps) = refl
+head-found l (ProfileText p ∷ ps) = refl
+
+-- `found` says by texts what `inside` says of two resource records
+abbrev FindsInside : (Tree → Tree → ℕ) → (Option (List ℕ × List ℕ) → List RecordPart → ℕ) → Type 0
+FindsInside inside found =
+    (w : Tables) → (r s : Tree) → (rest : List Tree) → Each (HeadFits scope) (held r) → Each (HeadFits scope) (held s)
+    → inside r s ≡ found (last_scope None (held r)) (parts_under w (flat_map scope_outline (held s) ++ outline rest))
+
 -- of resource records, where l has the last heads before them
-resources-repeated : (w : Tables) (l : LastHeads) (a b : List Tree) → HeadsFit a → HeadsFit b → (let none : List Tree = [] in (a ≡ none → l.resource ≡ None))
-    → repeated_heads a b ≡ repeated_parts (last_from l a) (parts_under w (outline b))
-resources-repeated w l [] [] f g n = refl
-resources-repeated w l [] (s ∷ b) f g n = rw (n refl) refl
-resources-repeated w l (r ∷ []) [] f g n = refl
-resources-repeated w l (r ∷ []) (s ∷ b) f g n =
-    ap (λ x. cond x (suc (repeats same_head (λ q t. 0) (held r) (held s))) 0)
-    (heads-by-texts resource tt (lawful_from (head_shape resource) refl) r s f.0.0 g.0.0)
-    ∙ ap (λ x. cond (is_head (Some (texts resource r)) (front resource s) (back s)) (suc x) 0)
-    (scopes-repeated w None (held r) (held s) b f.0.1 g.0.1 (λ e. refl))
-resources-repeated w l (r ∷ q ∷ a) b f g n = resources-repeated w (last_in (Some (texts resource r)) (last_scope None (held r))) (q ∷ a) b f.1 g (λ e. cc)
+resources-repeated : (inside : Tree → Tree → ℕ) (found : Option (List ℕ × List ℕ) → List RecordPart → ℕ) → FindsInside inside found
+    → (w : Tables) (l : LastHeads) (a b : List Tree) → HeadsFit a → HeadsFit b → (let none : List Tree = [] in (a ≡ none → l.resource ≡ None))
+    → repeats same_head inside a b ≡ parts_found found (last_from l a) (parts_under w (outline b))
+resources-repeated inside found h w l [] [] f g n = refl
+resources-repeated inside found h w l [] (s ∷ b) f g n = rw (n refl) refl
+resources-repeated inside found h w l (r ∷ []) [] f g n = refl
+resources-repeated inside found h w l (r ∷ []) (s ∷ b) f g n =
+    ap (λ x. cond x (suc (inside r s)) 0) (heads-by-texts resource tt (lawful_from (head_shape resource) refl) r s f.0.0 g.0.0)
+    ∙ ap (λ x. cond (is_head (Some (texts resource r)) (front resource s) (back s)) (suc x) 0) (h w r s b f.0.1 g.0.1)
+resources-repeated inside found h w l (r ∷ q ∷ a) b f g n =
+    resources-repeated inside found h w (last_in (Some (texts resource r)) (last_scope None (held r))) (q ∷ a) b f.1 g (λ e. cc)
 
 -- of two meanings
+meanings-repeated : (inside : Tree → Tree → ℕ) (found : Option (List ℕ × List ℕ) → List RecordPart → ℕ) → FindsInside inside found
+    → (v w : Tables) (a b : List Tree) → HeadsFit a → HeadsFit b
+    → repeats same_head inside a b
+    ≡ parts_found found (last_heads (record_parts (map (renumber v resource_profiles) a))) (record_parts (map (renumber w resource_profiles) b))
+meanings-repeated inside found h v w a b f g =
+    resources-repeated inside found h w no_heads a b f g (λ e. refl)
+    ∙ ap (λ l. parts_found found l (parts_under w (outline b)))
+    (sym (last-resources v no_heads a) ∙ ap last_heads (sym (parts-outline v resource scope profile refl refl a)))
+    ∙ ap (parts_found found (last_heads (record_parts (map (renumber v resource_profiles) a)))) (sym (parts-outline w resource scope profile refl refl b))
+
 pub repeated-texts : (v w : Tables) (a b : List Tree) → HeadsFit a → HeadsFit b
     → repeated_heads a b ≡ repeated_parts (last_heads (record_parts (map (renumber v resource_profiles) a))) (record_parts (map (renumber w resource_profiles) b))
 repeated-texts v w a b f g =
-    resources-repeated w no_heads a b f g (λ e. refl)
-    ∙ ap (λ l. repeated_parts l (parts_under w (outline b)))
-    (sym (last-resources v no_heads a) ∙ ap last_heads (sym (parts-outline v resource scope profile refl refl a)))
-    ∙ ap (repeated_parts (last_heads (record_parts (map (renumber v resource_profiles) a)))) (sym (parts-outline w resource scope profile refl refl b))
+    meanings-repeated repeated_scopes repeated_scope (λ u r s rest x y. scopes-repeated u None (held r) (held s) rest x y (λ e. refl)) v w a b f g
+    ∙ parts-found (last_heads (record_parts (map (renumber v resource_profiles) a))) (record_parts (map (renumber w resource_profiles) b))
 
--- of drafts
+pub head-texts : (v w : Tables) (a b : List Tree) → HeadsFit a → HeadsFit b
+    → repeated_resource a b ≡ repeated_head (last_heads (record_parts (map (renumber v resource_profiles) a))) (record_parts (map (renumber w resource_profiles) b))
+head-texts v w a b f g =
+    meanings-repeated (λ r s. 0) (λ o ps. 0) (λ u r s rest x y. refl) v w a b f g
+    ∙ head-found (last_heads (record_parts (map (renumber v resource_profiles) a))) (record_parts (map (renumber w resource_profiles) b))
+
+-- so it is with the records of a draft, and what is written after them
+written-texts : (d e : Tables) (ms ns xs ys : List Tree) → Drafted resource_profiles d ms xs → WrittenEach resource_profiles (values d) (values e) ns ys
+    → (n : ℕ) (count : LastHeads → List RecordPart → ℕ)
+    → n ≡ count (last_heads (record_parts (map (renumber (values d) resource_profiles) ms))) (record_parts (map (renumber (values e) resource_profiles) ns))
+    → n ≡ count (last_heads (record_parts xs)) (record_parts ys)
+written-texts d e ms ns xs ys r q n count h =
+    h ∙ ap (λ x. count (last_heads (record_parts x)) (record_parts (map (renumber (values e) resource_profiles) ns))) (sym r.written.renumbered)
+    ∙ ap (λ x. count (last_heads (record_parts xs)) (record_parts x)) (sym q.renumbered)
+
 pub draft-by-texts : (d e : Tables) (ms ns xs ys : List Tree)
     → Drafted resource_profiles d ms xs → IsDeduplicated e → WrittenEach resource_profiles (values d) (values e) ns ys → HeadsFit ms → HeadsFit ns
     → (zs : List Tree) × Drafted resource_profiles e (seam ms ns) zs
     × (record_parts zs ≡ record_parts xs ++ drop (repeated_parts (last_heads (record_parts xs)) (record_parts ys)) (record_parts ys))
 draft-by-texts d e ms ns xs ys r s q f g =
     let j = joined_draft d e ms ns xs ys r s q in
-    let k : repeated_heads ms ns ≡ repeated_parts (last_heads (record_parts xs)) (record_parts ys) =
-    repeated-texts (values d) (values e) ms ns f g
-    ∙ ap (λ x. repeated_parts (last_heads (record_parts x)) (record_parts (map (renumber (values e) resource_profiles) ns))) (sym r.written.renumbered)
-    ∙ ap (λ x. repeated_parts (last_heads (record_parts xs)) (record_parts x)) (sym q.renumbered) in
+    let k = written-texts d e ms ns xs ys r q (repeated_heads ms ns) repeated_parts (repeated-texts (values d) (values e) ms ns f g) in
+    (j.0, j.1, j.2 ∙ ap (λ n. record_parts xs ++ drop n (record_parts ys)) k)
+
+pub under-by-texts : (d e : Tables) (ms ns xs ys : List Tree)
+    → Drafted resource_profiles d ms xs → IsDeduplicated e → WrittenEach resource_profiles (values d) (values e) ns ys → HeadsFit ms → HeadsFit ns
+    → (zs : List Tree) × Drafted resource_profiles e (under_last ms ns) zs
+    × (record_parts zs ≡ record_parts xs ++ drop (repeated_head (last_heads (record_parts xs)) (record_parts ys)) (record_parts ys))
+under-by-texts d e ms ns xs ys r s q f g =
+    let j = under_draft d e ms ns xs ys r s q in
+    let k = written-texts d e ms ns xs ys r q (repeated_resource ms ns) repeated_head (head-texts (values d) (values e) ms ns f g) in
     (j.0, j.1, j.2 ∙ ap (λ n. record_parts xs ++ drop n (record_parts ys)) k)

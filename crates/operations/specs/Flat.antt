@@ -74,6 +74,10 @@ gathered (i ∷ is) = with_item i (gathered is)
 abbrev pub group : List FlatProfile → List Tree
 group l = (gathered (items l)).resources
 
+-- a profile with its heads as a resource record: one scope record, and in it one profile
+abbrev pub record_of : FlatProfile → Tree
+record_of e = holding e.resource (holding e.scope (e.profile ∷ []) ∷ [])
+
 -- ---- what is left of records
 
 -- the record with the head of this one that holds these; none, if these are none

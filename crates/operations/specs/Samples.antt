@@ -7,7 +7,7 @@ use Rattle.meaning.specs.Message.{meaning_of, meaning_text}
 use Rattle.meaning.specs.Tree.{Tree}
 use Rattle.operations.specs.Cuts.{parts}
 use Rattle.operations.specs.Flat.{flat, group}
-use Rattle.operations.specs.Seams.{join}
+use Rattle.operations.specs.Seams.{join, under_last}
 
 -- a profile of the type cpu in ns
 abbrev cpu : Value profile
@@ -166,3 +166,13 @@ scopes_length = refl
 scope_length : length (meaning_text resource_profiles single_scope) ≡ 22
 unfolding varint_upto number_field long_field bytes_field fixed_field
 scope_length = refl
+
+-- ---- under the last resource record
+
+-- with equal resource heads one resource record holds both scope records, which stay two with equal heads
+under_one : under_last one one ≡ in_one_resource (in_scope [] (cpu ∷ []) ∷ in_scope [] (cpu ∷ []) ∷ [])
+under_one = refl
+
+-- two equal scope records that come together stay two
+two_under : under_last empty_record equal_scopes ≡ equal_scopes
+two_under = refl

@@ -36,7 +36,18 @@ join_onto a (m ∷ ms) = join_onto (seam a m) ms
 abbrev pub join : List (List Tree) → List Tree
 join ms = join_onto [] ms
 
--- ---- the heads that a seam leaves out
+-- ---- scope records of their own under the last resource record
+
+-- two resource records as one: the scope records of both, each as it was
+abbrev pub joined_under : Tree → Tree → Tree
+joined_under r s = holding r (held r ++ held s)
+
+-- A meaning after another; but where the last resource record of the first and the first of the second have equal heads, the
+-- scope records of the second come under that of the first.
+abbrev pub under_last : List Tree → List Tree → List Tree
+under_last a b = append_joining same_head joined_under a b
+
+-- ---- the heads that are left out
 
 -- where the two elements that meet are alike, one, and as many more as `inside` says of them
 abbrev pub repeats : (Tree → Tree → Bool) → (Tree → Tree → ℕ) → List Tree → List Tree → ℕ
@@ -49,3 +60,7 @@ repeats alike inside (r ∷ q ∷ a) b = repeats alike inside (q ∷ a) b
 -- that of the first scope record in it.
 abbrev pub repeated_heads : List Tree → List Tree → ℕ
 repeated_heads a b = repeats same_head (λ r s. repeats same_head (λ q t. 0) (held r) (held s)) a b
+
+-- how many heads of the second meaning `under_last` leaves out: none, or that of its first resource record
+abbrev pub repeated_resource : List Tree → List Tree → ℕ
+repeated_resource a b = repeats same_head (λ r s. 0) a b

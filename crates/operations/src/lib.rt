@@ -11,13 +11,15 @@ ghost use Rattle.schema.specs.Shape.{Shape, Value};
 ghost use Rattle.meaning.specs.Tree.{Tree, IsOf, value};
 ghost use Rattle.meaning.specs.Tables.{Tables};
 ghost use Rattle.meaning.specs.Canonical.{renumber, values};
+ghost use Rattle.meaning.specs.Meaning.{IsMeaning};
 ghost use Rattle.meaning.specs.Message.{message, meaning_of, meaning_text};
+ghost use Rattle.meaning.specs.Ranges.{HasRange};
 ghost use Rattle.meaning.specs.Renumbering.{IsDeduplicated, WrittenEach, Drafted};
-ghost use Rattle.parts.specs.LastHeads.{last_heads, repeated_parts};
+ghost use Rattle.parts.specs.LastHeads.{last_heads, repeated_parts, repeated_head};
 ghost use Rattle.parts.specs.Records.{holder, record_parts, held, front, back};
 ghost use Rattle.operations.specs.Outlines.{Item, head, holding, outline, item_part};
-ghost use Rattle.operations.specs.Seams.{seam, join, repeated_heads, same_head, joined_scope, joined_resource};
-ghost use Rattle.operations.specs.Flat.{FlatProfile, flat, bare, group, without_empty};
+ghost use Rattle.operations.specs.Seams.{seam, join, under_last, repeated_heads, repeated_resource, same_head, joined_scope, joined_resource, joined_under};
+ghost use Rattle.operations.specs.Flat.{FlatProfile, flat, bare, group, record_of, without_empty};
 ghost use Rattle.operations.specs.Cuts.{size_of, first_length, cut, parts};
 ghost use Rattle.operations.specs.Heads.{HeadFits, HeadsFit};
 
@@ -64,22 +66,49 @@ pub fn seams_go_on()
     ensures { (a : List Tree) → (b : List Tree) → outline (seam a b) ≡ outline a ++ drop (repeated_heads a b) (outline b) }
 {}
 
+/// If either meaning is empty, the other comes of both (`first`, `last`). Otherwise only the two resource records that meet change:
+/// where their heads are equal they become one (`between`), with the head of the first (`resource_head`) and the scope records of
+/// both, each as it was (`scopes`).
+pub fn scopes_come_under_the_last_resource()
+    ensures first { (b : List Tree) → under_last [] b ≡ b }
+    ensures last { (a : List Tree) → under_last a [] ≡ a }
+    ensures between { (a : List Tree) → (r : Tree) → (s : Tree) → (b : List Tree)
+        → under_last (a ++ r ∷ []) (s ∷ b) ≡ cond (same_head r s) (a ++ joined_under r s ∷ b) (a ++ r ∷ s ∷ b) }
+    ensures resource_head { (r : Tree) → (s : Tree) → head (joined_under r s) ≡ head r }
+    ensures scopes { (r : Tree) → (s : Tree) → held (joined_under r s) ≡ held r ++ held s }
+{}
+
+/// The outline is that of the one meaning, and then that of the other without the head of its first resource record, if that repeats
+/// the last one.
+pub fn under_last_goes_on()
+    ensures { (a : List Tree) → (b : List Tree) → outline (under_last a b) ≡ outline a ++ drop (repeated_resource a b) (outline b) }
+{}
+
 /// The profiles of joined meanings are those of each, in order, with their heads.
 pub fn joined_meanings_have_the_same_profiles()
     ensures { (ms : List (List Tree)) → map bare (flat (join ms ∷ [])) ≡ flat_map (λ m. map bare (flat (m ∷ []))) ms }
 {}
 
+/// The profiles are those of both, in order, with their heads.
+pub fn under_last_has_the_same_profiles()
+    ensures { (a : List Tree) → (b : List Tree) → map bare (flat (under_last a b ∷ [])) ≡ map bare (flat (a ∷ [])) ++ map bare (flat (b ∷ [])) }
+{}
+
 /// Grouping the flat list of meanings gives back their records, without those that hold no profile (`records`). A record with its
-/// own head that holds what it held is that record (`whole`), so what is left is as it was.
+/// own head that holds what it held is that record (`whole`), so what is left is as it was. One profile alone makes its own record
+/// (`single`).
 pub fn grouping_gives_back_records()
     ensures records { (ms : List (List Tree)) → group (flat ms) ≡ without_empty (flat_map (λ m. m) ms) }
     ensures whole { (h : Shape) → (k : Shape) → (t : Tree) → IsOf (holder h k) t → holding t (held t) ≡ t }
+    ensures single { (e : FlatProfile) → group (e ∷ []) ≡ record_of e ∷ [] }
 {}
 
-/// The canonical bytes of a seam are at least as many as those of its first meaning (`seam`), those of joined meanings at least as
-/// many as with only the first of them joined (`join`), and those of a flat list at least as many as those of a prefix (`prefix`).
+/// The canonical bytes of a seam are at least as many as those of its first meaning (`seam`), and so it is where scope records come
+/// under the last resource record (`under`). Those of joined meanings are at least as many as with only the first of them joined
+/// (`join`), and those of a flat list at least as many as those of a prefix (`prefix`).
 pub fn joining_never_shortens()
     ensures seam { (a : List Tree) → (b : List Tree) → length (meaning_text resource_profiles a) ≤ length (meaning_text resource_profiles (seam a b)) }
+    ensures under { (a : List Tree) → (b : List Tree) → length (meaning_text resource_profiles a) ≤ length (meaning_text resource_profiles (under_last a b)) }
     ensures join { (ms : List (List Tree)) → (ns : List (List Tree))
         → length (meaning_text resource_profiles (join ms)) ≤ length (meaning_text resource_profiles (join (ms ++ ns))) }
     ensures prefix { (l : List FlatProfile) → (more : List FlatProfile) → size_of l ≤ size_of (l ++ more) }
@@ -113,6 +142,33 @@ pub fn heads_fit()
     ensures seams { (a : List Tree) → (b : List Tree) → HeadsFit a → HeadsFit b → HeadsFit (seam a b) }
 {}
 
+/// A seam of trees that are such as records mean is such trees (`means`); and where their leaves are in their ranges, so are its
+/// own (`ranges`).
+pub fn seams_are_meanings()
+    ensures means { (a : List Tree) → (b : List Tree) → Each (IsMeaning resource_profiles) a → Each (IsMeaning resource_profiles) b → Each (IsMeaning resource_profiles) (seam a b) }
+    ensures ranges { (a : List Tree) → (b : List Tree) → Each (HasRange resource_profiles) a → Each (HasRange resource_profiles) b → Each (HasRange resource_profiles) (seam a b) }
+{}
+
+/// What comes of two meanings by `under_last` has heads that can be written, if both have (`heads`), is trees such as records mean
+/// (`means`), and has its leaves in their ranges (`ranges`).
+pub fn under_last_can_be_written()
+    ensures heads { (a : List Tree) → (b : List Tree) → HeadsFit a → HeadsFit b → HeadsFit (under_last a b) }
+    ensures means { (a : List Tree) → (b : List Tree) → Each (IsMeaning resource_profiles) a → Each (IsMeaning resource_profiles) b → Each (IsMeaning resource_profiles) (under_last a b) }
+    ensures ranges { (a : List Tree) → (b : List Tree) → Each (HasRange resource_profiles) a → Each (HasRange resource_profiles) b → Each (HasRange resource_profiles) (under_last a b) }
+{}
+
+/// What is written after a draft's records, with nothing joined, makes a draft of the one meaning and then the other, which has all
+/// parts of both (`drafts`). Its heads can be written, if those of both can (`heads`); it is trees such as records mean (`means`), and
+/// has its leaves in their ranges (`ranges`).
+pub fn meanings_are_appended()
+    ensures drafts { (d : Tables) → (e : Tables) → (ms : List Tree) → (ns : List Tree) → (xs : List Tree) → (ys : List Tree)
+        → Drafted resource_profiles d ms xs → IsDeduplicated e → WrittenEach resource_profiles (values d) (values e) ns ys
+        → (zs : List Tree) × Drafted resource_profiles e (ms ++ ns) zs × (record_parts zs ≡ record_parts xs ++ record_parts ys) }
+    ensures heads { (a : List Tree) → (b : List Tree) → HeadsFit a → HeadsFit b → HeadsFit (a ++ b) }
+    ensures means { (a : List Tree) → (b : List Tree) → Each (IsMeaning resource_profiles) a → Each (IsMeaning resource_profiles) b → Each (IsMeaning resource_profiles) (a ++ b) }
+    ensures ranges { (a : List Tree) → (b : List Tree) → Each (HasRange resource_profiles) a → Each (HasRange resource_profiles) b → Each (HasRange resource_profiles) (a ++ b) }
+{}
+
 /// Heads that can be written are equal exactly where their two texts are (`resources`, `scopes`). A record that can be written has
 /// such a head (`records`).
 pub fn head_bytes_tell_heads_apart()
@@ -132,6 +188,17 @@ pub fn seams_are_found_by_texts()
         → Drafted resource_profiles d ms xs → IsDeduplicated e → WrittenEach resource_profiles (values d) (values e) ns ys → HeadsFit ms → HeadsFit ns
         → (zs : List Tree) × Drafted resource_profiles e (seam ms ns) zs
         × (record_parts zs ≡ record_parts xs ++ drop (repeated_parts (last_heads (record_parts xs)) (record_parts ys)) (record_parts ys)) }
+{}
+
+/// The texts of the last resource head of the one meaning tell whether the first of the other is left out (`repeated`). So what a
+/// draft's parts gain, when scope records come under its last resource record, depends on texts alone (`drafts`).
+pub fn under_last_is_found_by_texts()
+    ensures repeated { (v : Tables) → (w : Tables) → (a : List Tree) → (b : List Tree) → HeadsFit a → HeadsFit b
+        → repeated_resource a b ≡ repeated_head (last_heads (record_parts (map (renumber v resource_profiles) a))) (record_parts (map (renumber w resource_profiles) b)) }
+    ensures drafts { (d : Tables) → (e : Tables) → (ms : List Tree) → (ns : List Tree) → (xs : List Tree) → (ys : List Tree)
+        → Drafted resource_profiles d ms xs → IsDeduplicated e → WrittenEach resource_profiles (values d) (values e) ns ys → HeadsFit ms → HeadsFit ns
+        → (zs : List Tree) × Drafted resource_profiles e (under_last ms ns) zs
+        × (record_parts zs ≡ record_parts xs ++ drop (repeated_head (last_heads (record_parts xs)) (record_parts ys)) (record_parts ys)) }
 {}
 
 /// The profiles of the parts are those of the meanings that are cut, in order, with their heads (`all`). The profiles of several

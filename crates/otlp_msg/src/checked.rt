@@ -8,6 +8,7 @@ ghost use Rattle.otlp_msg.specs.Views.{message_view};
 
 use crate::Message;
 use crate::counts::{profiles_in_resources, samples_in_resources};
+use pb_wire::List;
 
 /// A message that was accepted, with the bytes that it was read from.
 #[derive(Debug, Drop)]
@@ -17,6 +18,9 @@ pub struct Checked<'a> {
     ghost octets: { All (λ b. b < 256) body.now },
     pub ghost read: { message_of body.now ≡ Ok (message_view message) } by { Prim.hlevel (props, codes, any_code) },
 }
+
+/// Messages in order. `begin`, `add` and `get` are those of `List`.
+pub type Messages<'a> = List<Checked<'a>>;
 
 impl<'a> Checked<'a> {
     ghost use Rattle.std.specs.Prelude.{◌^◌, length, map};

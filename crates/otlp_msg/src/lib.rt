@@ -15,7 +15,7 @@ mod sample_indexes;
 mod table_lengths;
 mod zero_entries;
 
-pub use checked::Checked;
+pub use checked::{Checked, Messages};
 pub use message::Message;
 pub use path::{Holder, Path, ProfilePos};
 pub use reading::{MESSAGE_LIMIT, read_message};

@@ -3,3 +3,4 @@ pub mod Sizes
 pub mod Rows
 pub mod Spelling
 pub mod Values
+pub mod LastHeads

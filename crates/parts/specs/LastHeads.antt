@@ -39,3 +39,8 @@ repeated_scope o ps = 0
 abbrev pub repeated_parts : LastHeads → List RecordPart → ℕ
 repeated_parts l (ResourceBegins f b ∷ ps) = cond (is_head l.resource f b) (suc (repeated_scope l.scope ps)) 0
 repeated_parts l ps = 0
+
+-- 1 if the first part begins a resource record with the texts of the last one, else 0
+abbrev pub repeated_head : LastHeads → List RecordPart → ℕ
+repeated_head l (ResourceBegins f b ∷ ps) = cond (is_head l.resource f b) 1 0
+repeated_head l ps = 0

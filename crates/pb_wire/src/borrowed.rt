@@ -26,7 +26,7 @@ impl<'a> TextRef<'a> {
         TextRef::of("")
     }
 
-    /// The same text as a string slice.
+    /// The text of a string slice.
     pub fn of(inner: &'a str) -> TextRef<'a>
         ensures { result ≡ inner.now }
     {
@@ -75,7 +75,7 @@ impl<'a> BytesRef<'a> {
         BytesRef { inner: &[] }
     }
 
-    /// The same bytes as a slice.
+    /// The bytes of a slice.
     pub fn of(inner: &'a [u8]) -> BytesRef<'a>
         ensures { result ≡ inner.now }
     {

@@ -74,6 +74,7 @@ impl<T> List<T> {
 impl<T: Drop> List<T> {
     /// Puts an element at the end. When out of memory, the list is as before and the element is dropped. The first one takes
     /// room for itself alone, since most lists of a message have one element.
+    #[inline(always)]
     pub fn add(&mut self, element: T) -> Result<(), NoMemory>
         ensures ok { OnOk result (self.new ≡ self.old ++ element ∷ []) }
         ensures err { OnErr result (self.new ≡ self.old) }

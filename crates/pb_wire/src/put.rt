@@ -36,10 +36,9 @@ pub fn varint_len(value: u64) -> usize
     }
 }
 
-/// Puts the shortest varint at the end; when out of memory, the bytes so far are still in front.
-#[inline]
+// Puts the shortest varint of 128 or more at the end; when out of memory, the bytes so far are still in front.
 #[tactic(auto, using(schema_laws::proofs::Onto::varint_small, schema_laws::proofs::Onto::varint_onto, crate::proofs::Prefixes::growing))]
-pub(crate) fn push_varint(out: &mut Blob, value: u64) -> Result<(), NoMemory>
+fn push_long_varint(out: &mut Blob, value: u64) -> Result<(), NoMemory>
     ensures ok { OnOk result (out.new ≡ out.old ++ varint value) }
     ensures err { OnErr result (IsPrefix out.old out.new) }
 {
@@ -52,6 +51,20 @@ pub(crate) fn push_varint(out: &mut Blob, value: u64) -> Result<(), NoMemory>
     }
     out.push(rest as u8)?;
     Ok(())
+}
+
+/// Puts the shortest varint at the end; when out of memory, the bytes so far are still in front.
+#[inline(always)]
+#[tactic(auto, using(schema_laws::proofs::Onto::varint_small, crate::proofs::Prefixes::growing))]
+pub(crate) fn push_varint(out: &mut Blob, value: u64) -> Result<(), NoMemory>
+    ensures ok { OnOk result (out.new ≡ out.old ++ varint value) }
+    ensures err { OnErr result (IsPrefix out.old out.new) }
+{
+    if value < 128 {
+        out.push(value as u8)?;
+        return Ok(());
+    }
+    push_long_varint(out, value)
 }
 
 /// Puts the shortest varint at the end, all of it or nothing.
@@ -68,7 +81,7 @@ pub fn put_varint(out: &mut Blob, value: u64) -> Result<(), NoMemory>
 }
 
 /// Puts the tag and the length of a field of bytes at the end. After an error the bytes so far are still in front.
-#[inline]
+#[inline(always)]
 #[tactic(auto, using(crate::proofs::Prefixes::growing))]
 pub fn put_head(out: &mut Blob, number: u32, len: u64) -> Result<(), NoMemory>
     requires { number < 2 ^ 29 }

@@ -13,7 +13,7 @@ use crate::put::{push_long, push_varint};
 use crate::{Blob, BytesRef, NewIndexes, NoMemory, Number, Rows, TextRef};
 
 /// Puts a number that is not 0.
-#[inline]
+#[inline(always)]
 #[tactic(auto, using(crate::proofs::Prefixes::growing), unfolding(schema::specs::Texts::number_field))]
 pub fn put_number<N: Number>(out: &mut Blob, number: u32, value: N) -> Result<(), NoMemory>
     requires { number < 2 ^ 29 }

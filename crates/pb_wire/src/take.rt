@@ -14,7 +14,7 @@ use crate::{
 use std::alloc::Global;
 
 /// Takes a singular number: the last occurrence wins. It takes no memory.
-#[inline]
+#[inline(always)]
 pub fn take_number<N: Number>(slot: &mut N, field: &Field<'_>) -> Result<(), ReadFault>
     ensures taken { Took (N.value slot.new) result (Ok (one_number N.format (payload_view field.now.payload) (N.value slot.old))) }
     ensures no_memory { TakesNone result }
@@ -90,6 +90,7 @@ pub fn take_message<'a, T: Wire<'a>>(
 }
 
 /// Takes one element of a repeated message.
+#[inline(always)]
 pub fn add_message<'a, T: Wire<'a>>(
     slot: &mut List<T>,
     alloc: Global,
@@ -121,6 +122,7 @@ fn packed_reason(reason: Reason) -> Reason
 }
 
 // The numbers of a packed payload, whose tag is at a place.
+#[inline(always)]
 fn add_packed<N: Number>(slot: &mut List<N>, bytes: &[u8], at: u64) -> Result<(), ReadFault>
     ensures { Took (map N.value slot.new) result (more_packed N.format at bytes.now (map N.value slot.old)) }
 {
@@ -140,6 +142,7 @@ fn add_packed<N: Number>(slot: &mut List<N>, bytes: &[u8], at: u64) -> Result<()
 }
 
 /// Takes the elements of a repeated number, packed or not.
+#[inline(always)]
 pub fn add_number<N: Number>(slot: &mut List<N>, field: &Field<'_>) -> Result<(), ReadFault>
     ensures { Took (map N.value slot.new) result (more_numbers N.format field.now.at (payload_view field.now.payload) (map N.value slot.old)) }
 {
@@ -172,6 +175,7 @@ fn add_packed_fixed(slot: &mut List<u64>, bytes: &[u8], at: u64) -> Result<(), R
 }
 
 /// Takes the elements of a repeated eight-byte number, packed or not.
+#[inline(always)]
 pub fn add_fixed(slot: &mut List<u64>, field: &Field<'_>) -> Result<(), ReadFault>
     ensures { Took slot.new result (more_fixed field.now.at (payload_view field.now.payload) slot.old) }
 {

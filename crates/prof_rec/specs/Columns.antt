@@ -1,5 +1,5 @@
 -- Samples in columns: a head for each, and of each kind of list one column, in which those of all samples follow one another.
-use Rattle.std.specs.Prelude.{◌≡◌, ℕ, ℤ, pos, ◌≤◌, List, [], ◌∷◌, ◌++◌, length, take}
+use Rattle.std.specs.Prelude.{◌≡◌, ℕ, ℤ, pos, ◌≤◌, List, [], ◌∷◌, ◌++◌, length, take, Option, Some, None}
 use Rattle.std.specs.List.{slice_range}
 use Rattle.prof_rec.specs.declared.head.Head.{Head}
 use Rattle.prof_rec.specs.declared.sample.Sample.{Sample}
@@ -26,6 +26,11 @@ samples_after before (h ∷ hs) values attributes times = sample_from before h v
 -- the samples of all heads, in the columns of which `all` has one each
 abbrev pub samples_in : List Head → Sample → List Sample
 samples_in heads all = samples_after start heads all.values all.attribute_indices all.timestamps_unix_nano
+
+-- these samples, or none
+abbrev pub or_none : Option (List Sample) → List Sample
+or_none None = []
+or_none (Some samples) = samples
 
 -- no list of the second ends before that of the first
 pub record IsBefore (before h : Head) : Type 0 where

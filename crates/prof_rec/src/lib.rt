@@ -8,6 +8,7 @@ mod profile;
 mod resource;
 mod resource_profiles;
 mod sample;
+mod sample_columns;
 mod sample_ref;
 mod sample_rows;
 mod samples;

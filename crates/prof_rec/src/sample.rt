@@ -55,6 +55,7 @@ impl<'a> Wire<'a> for Sample {
         }
     }
 
+    #[inline(always)]
     fn take(&mut self, _alloc: Global, field: &Field<'a>) -> Result<(), ReadFault> {
         match field.number {
             1 => take_number(&mut self.stack_index, field),

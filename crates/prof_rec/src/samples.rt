@@ -1,5 +1,5 @@
-//! The samples of a profile, in columns.
-ghost use Rattle.std.specs.Prelude.{◌≡◌, ◌+◌, ◌<◌, ◌≤◌, ◌^◌, [], ◌∷◌, ◌++◌, length, map, Ok, Some, OnOk, OnErr, OnSome, slice_get, ◌==◌};
+//! The samples of a profile.
+ghost use Rattle.std.specs.Prelude.{◌≡◌, ◌+◌, ◌<◌, ◌≤◌, ◌^◌, [], ◌∷◌, ◌++◌, length, map, Ok, Some, IfOk, OnOk, OnErr, OnSome, slice_get, ◌==◌};
 ghost use Rattle.std.specs.Option.{option_map};
 ghost use Rattle.schema.specs.Field.{bytes_of};
 ghost use Rattle.schema.specs.Merge.{take_field, take_many};
@@ -10,33 +10,31 @@ ghost use Rattle.prof_rec.specs.Onto.{read_more};
 ghost use Rattle.prof_rec.specs.SampleRefs.{sample_of};
 ghost use Rattle.prof_rec.specs.Views.{sample_view};
 
-use crate::columns::{add_sample, read_sample, sample_at};
-use crate::head::Head;
+use crate::sample_columns::SampleColumns;
 use crate::{Sample, SampleRef};
-use pb_wire::{Field, List, NoMemory, Payload, ReadFault};
+use pb_wire::{Field, NoMemory, Payload, ReadFault};
 use std::alloc::Global;
 use std::marker::Model;
+use std::mem;
 
 /// Samples in order, seen as their list. No sample has memory of its own: each is a head of 20 bytes, and its elements are in
-/// three columns, one for each kind of list.
+/// three columns, one for each kind of list. Where there are none, they take no memory.
 #[derive(Debug, Drop)]
 pub struct Samples {
-    heads: List<Head>,
-    // The lists of all samples, one after the other; its indexes are those of the sample that came last.
-    all: Sample,
+    columns: Option<Box<SampleColumns>>,
+    alloc: Global,
 }
 
 impl Model for Samples {
     ghost use Rattle.std.specs.Prelude.{List};
+    ghost use Rattle.std.specs.Option.{option_map};
     ghost use Rattle.prof_rec.specs.declared.sample.Sample.{Sample};
 
     ghost Value = { List Sample };
 
-    ghost use Rattle.prof_rec.specs.Columns.{IsParted, samples_in};
+    ghost use Rattle.prof_rec.specs.Columns.{or_none};
 
-    ghost view = { λ s. samples_in s.heads s.all };
-
-    ghost invariant = { λ s. IsParted s.heads s.all };
+    ghost view = { λ s. or_none (option_map (λ b. b.value) s.columns) };
 }
 
 impl Samples {
@@ -45,14 +43,8 @@ impl Samples {
         ensures { result ≡ [] }
     {
         Samples {
-            heads: List::begin(alloc),
-            all: Sample {
-                stack_index: 0,
-                values: List::begin(alloc),
-                attribute_indices: List::begin(alloc),
-                link_index: 0,
-                timestamps_unix_nano: List::begin(alloc),
-            },
+            columns: None,
+            alloc,
         }
     }
 
@@ -60,14 +52,17 @@ impl Samples {
     pub fn len(&self) -> usize
         ensures { result ≡ length self.now }
     {
-        self.heads.len()
+        match &self.columns {
+            None => 0,
+            Some(columns) => columns.len(),
+        }
     }
 
     /// Whether there are none.
     pub fn is_empty(&self) -> bool
         ensures { result ≡ (length self.now == 0) }
     {
-        self.heads.is_empty()
+        self.len() == 0
     }
 
     /// The sample at a place. It takes no memory.
@@ -76,7 +71,16 @@ impl Samples {
         requires { place < length self.now }
         ensures { slice_get self.now place ≡ Some (sample_of result) }
     {
-        sample_at(self.heads.as_slice(), &self.all, place)
+        match &self.columns {
+            Some(columns) => columns.at(place),
+            None => SampleRef {
+                stack_index: 0,
+                values: &[],
+                attribute_indices: &[],
+                link_index: 0,
+                timestamps_unix_nano: &[],
+            },
+        }
     }
 
     /// The sample at a place, or None where the place is at least the length. It takes no memory.
@@ -97,8 +101,22 @@ impl Samples {
         ensures ok { OnOk result (self.new ≡ self.old ++ sample ∷ []) }
         ensures err { OnErr result (self.new ≡ self.old) }
     {
-        add_sample(&mut self.heads, &mut self.all, &sample)?;
-        Ok(())
+        let mut columns = self.take_columns()?;
+        let added = columns.add(sample);
+        self.columns = Some(columns);
+        added
+    }
+
+    // The columns, in whose place there are none.
+    fn take_columns(&mut self) -> Result<Box<SampleColumns>, NoMemory>
+        ensures ok { IfOk result (λ b. b.value ≡ self.old) }
+        ensures none { self.new ≡ [] }
+        ensures err { OnErr result (self.old ≡ []) }
+    {
+        match mem::replace(&mut self.columns, None) {
+            Some(columns) => Ok(columns),
+            None => Ok(Box::new(self.alloc, SampleColumns::begin(self.alloc))?),
+        }
     }
 
     /// Reads one more sample of bytes that begin at the place `base` of the file. After a fault there are no samples.
@@ -107,11 +125,10 @@ impl Samples {
         ensures took { Took (map sample_view self.new) result (read_more (map sample_view self.old) base bytes.now) }
         ensures none { OnErr result (self.new ≡ []) }
     {
-        if let Err(fault) = read_sample(&mut self.heads, &mut self.all, alloc, bytes, base) {
-            *self = Samples::begin(alloc);
-            return Err(fault);
-        }
-        Ok(())
+        let mut columns = self.take_columns()?;
+        let read = columns.read(alloc, bytes, base);
+        self.columns = Some(columns);
+        read
     }
 
     /// Takes a field that is one more sample, as an element of a repeated message. After a fault there are no samples.

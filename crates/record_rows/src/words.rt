@@ -1,6 +1,6 @@
 //! The command line.
 use crate::fault::CaseFault;
-use commands::{ToolPlan, plan};
+use commands::{Texts, ToolPlan, plan};
 use std::alloc::{AllocError, Global};
 
 /// What a command line asks for, each word that is taken in brackets, or why it is refused.
@@ -23,15 +23,22 @@ pub fn words_of(alloc: Global, data: &str) -> Result<Vec<String>, AllocError> {
 
 fn plan_told(alloc: Global, plan: &ToolPlan) -> Result<String, AllocError> {
     match plan {
-        ToolPlan::Check { files } => {
-            let mut told = String::from_str(alloc, "check")?;
-            for file in files.as_slice() {
-                told.push_str(format!(in alloc; " [{}]", file.as_str())?.as_str())?;
-            }
-            Ok(told)
-        }
+        ToolPlan::Check { files } => files_told(alloc, "check", files),
         ToolPlan::Canon { file, target } => {
             format!(in alloc; "canon [{}] to [{}]", file.as_str(), target.as_str())
         }
+        ToolPlan::Merge { target, files } => {
+            let told = files_told(alloc, "merge", files)?;
+            format!(in alloc; "{told} to [{}]", target.as_str())
+        }
     }
+}
+
+// A command and the files that it takes.
+fn files_told(alloc: Global, command: &str, files: &Texts) -> Result<String, AllocError> {
+    let mut told = String::from_str(alloc, command)?;
+    for file in files.as_slice() {
+        told.push_str(format!(in alloc; " [{}]", file.as_str())?.as_str())?;
+    }
+    Ok(told)
 }

@@ -23,8 +23,10 @@ use Rattle.key_tables.specs.Keys.{AreFew, ArePrefixes, Keys, at}
 use Rattle.meaning.specs.Memo.{KnowsIndex, Keeps, Knows, index_in, or_zero}
 use Rattle.renumber.specs.Entries.{IsKey, IsKeyOf, IsPart, IsSource, entry_of, index_into, new_entries, old_entries}
 use Rattle.renumber.proofs.Moves.{moves_noted, noted_seven, noted_tables}
-use Rattle.pb_wire.specs.TableKinds.{place_of}
-use Rattle.renumber.specs.Walk.{MemoLists, Moves, noted_in, IsOpen, IsReady, State, Walked}
+use Rattle.pb_wire.specs.TableKinds.{place_of, table_of}
+use Rattle.renumber.specs.declared.spot.Spot.{Spot}
+use Rattle.renumber.specs.Memos.{MemoState, noted_at, noted_in}
+use Rattle.renumber.specs.Walk.{MemoLists, Moves, IsOpen, IsReady, State, Walked, memo_of}
 use Rattle.schema.specs.Moved.{GivesIndexes, moved}
 use Rattle.meaning.proofs.Memo.{known_written, memo_gives}
 use Rattle.schema_laws.proofs.MovedLengths.{moved_fits, moved_short}
@@ -135,35 +137,60 @@ noted_known T i j memo memo' l n =
     let q : memo' T ≡ set (memo T) i (Some j) = rw same_table-itself at (n T) in
     rw q (get_or-set_at (memo T) i i (Some j) None refl l)
 
--- A key went into its table, and its place there was noted in the memo.
-module _ (a b : State) (T : Table) (i j : ℕ) (bytes : List ℕ) (r : IsReady a.source a.keys a.memo) (o : IsOpen T a i) (q : IsKeyOf T a.source a.keys i bytes)
-    (h : Interned (at a.keys T) bytes (at b.keys T) j) (others : (U : Table) → same_table U T ≡ false → at b.keys U ≡ at a.keys U) (few : AreFew b.keys)
-    (seven : length b.keys ≡ 7) (e : b.memo ≡ noted_in T i j a.memo) (same : b.source ≡ a.source) where
-  within : i < length (at a.memo T)
-  within = open_within a T i r o
+-- A key went into its table, and its spot was noted in the memo.
+module _ (a b : State) (s : Spot) (j : ℕ) (bytes : List ℕ) (r : IsReady a.source a.keys a.memo) (o : IsOpen (table_of s.kind) a s.place)
+    (q : IsKeyOf (table_of s.kind) a.source a.keys s.place bytes) (h : Interned (at a.keys (table_of s.kind)) bytes (at b.keys (table_of s.kind)) j)
+    (others : (U : Table) → same_table U (table_of s.kind) ≡ false → at b.keys U ≡ at a.keys U) (few : AreFew b.keys)
+    (seven : length b.keys ≡ 7) (e : memo_of b ≡ noted_at s j (memo_of a)) (same : b.source ≡ a.source) where
+  within : s.place < length (at a.memo (table_of s.kind))
+  within = open_within a (table_of s.kind) s.place r o
 
-  noted : Noted T i j (at a.memo) (at b.memo)
-  noted = subst (λ (m : MemoLists). Noted T i j (at a.memo) (at m)) (sym e) (noted_tables T i j a.memo r.seven_memo)
+  lists : b.memo ≡ noted_in (table_of s.kind) s.place j a.memo
+  lists = ap (λ (m : MemoState). m.lists) e
 
-  both : IsReady a.source b.keys b.memo × Written (Index T (entry T)) (values (new_entries a.keys)) (values (new_entries b.keys)) (resolve (old_entries a.source) (Index T (entry T)) (Integer (pos i))) (Integer (pos j))
-  both = entered a.source a.keys b.keys a.memo b.memo T i j bytes r q h others (few (place_of T)) noted seven (ap length e ∙ noted_seven T i j a.memo r.seven_memo)
+  noted : Noted (table_of s.kind) s.place j (at a.memo) (at b.memo)
+  noted = subst (λ (m : MemoLists). Noted (table_of s.kind) s.place j (at a.memo) (at m)) (sym lists) (noted_tables (table_of s.kind) s.place j a.memo r.seven_memo)
+
+  both : IsReady a.source b.keys b.memo × Written (Index (table_of s.kind) (entry (table_of s.kind))) (values (new_entries a.keys)) (values (new_entries b.keys))
+      (resolve (old_entries a.source) (Index (table_of s.kind) (entry (table_of s.kind))) (Integer (pos s.place))) (Integer (pos j))
+  both =
+      entered a.source a.keys b.keys a.memo b.memo (table_of s.kind) s.place j bytes r q h others (few (place_of (table_of s.kind))) noted seven
+      (ap length lists ∙ noted_seven (table_of s.kind) s.place j a.memo r.seven_memo)
 
   -- the walk goes on from there
   pub entered_ready : IsReady a.source b.keys b.memo
   entered_ready = both.0
 
+  keeps : Keeps (at a.memo) (at b.memo)
+  keeps = noted_keeps (table_of s.kind) s.place j (at a.memo) (at b.memo) o.free noted
+
+  -- and could do so if nothing was noted
+  pub entered_unnoted : IsReady a.source b.keys a.memo
+  entered_unnoted = record {
+    ready = record {
+      deduplicated = both.0.ready.deduplicated;
+      zeros = both.0.ready.zeros;
+      kept = λ U n k l f. both.0.ready.kept U n k (omega (arith, l, r.ready.all U, both.0.ready.all U)) (keeps U n k f);
+      all = r.ready.all;
+    };
+    texts = both.0.texts;
+    few = both.0.few;
+    seven = both.0.seven;
+    seven_memo = r.seven_memo;
+  }
+
   -- the index was walked over
-  pub entered_walk : Walked (index_into T) a b (pos i)
+  pub entered_walk : Walked (index_into (table_of s.kind)) a b (pos s.place)
   entered_walk = record {
     same = same;
     walked = both.1.walked;
-    keeps = noted_keeps T i j (at a.memo) (at b.memo) o.free noted;
-    known = inr (j, noted_known T i j (at a.memo) (at b.memo) within noted);
+    keeps = keeps;
+    known = inr (j, noted_known (table_of s.kind) s.place j (at a.memo) (at b.memo) within noted);
   }
 
   -- with a step more at most, and an unmet entry less
-  pub entered_moves : (n m : ℕ) → ((base : Keys) → ArePrefixes base a.keys → ArePrefixes base b.keys) → m ≤ n + 1 → Moves (index_into T) 0 a b n m
-  entered_moves n m kept one = moves_noted a b T i j n m same kept e r.seven_memo within o.free one
+  pub entered_moves : (n m : ℕ) → ((base : Keys) → ArePrefixes base a.keys → ArePrefixes base b.keys) → m ≤ n + 1 → Moves (index_into (table_of s.kind)) 0 a b n m
+  entered_moves n m kept one = moves_noted a b s j n m same kept e r.seven_memo within o.free one
 
 -- tables that stay stay ready
 pub ready_still : (old : Dictionary) (keys keys' : Keys) (memo : MemoLists) → keys' ≡ keys → IsReady old keys memo → IsReady old keys' memo

@@ -5,5 +5,6 @@ pub mod Entering
 pub mod Walks
 pub mod Beginning
 pub mod Moves
+pub mod MemoSteps
 pub mod Memos
 pub mod Texts

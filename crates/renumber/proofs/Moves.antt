@@ -9,14 +9,17 @@ use Rattle.schema.specs.Tables.{same_table}
 use Rattle.meaning.specs.Renumbering.{Noted}
 use Rattle.meaning.specs.Tables.{entry}
 use Rattle.meaning.proofs.Soundness.{same_table-true}
-use Rattle.pb_wire.specs.TableKinds.{place_of}
+use Rattle.pb_wire.specs.TableKinds.{place_of, table_of}
 use Rattle.key_tables.specs.Keys.{ArePrefixes, Keys, at}
 use Rattle.key_tables.proofs.Places.{other_place, place_below}
 use Rattle.std.specs.Result.{IsErr}
 use Rattle.schema_laws.proofs.Mentions.{leads_elsewhere}
 use Rattle.dict_rec.specs.declared.dictionary.Dictionary.{Dictionary}
 use Rattle.renumber.specs.Entries.{index_into, old_entries}
-use Rattle.renumber.specs.Walk.{IsOpen, MemoLists, Moves, missed, State, Unless, every_table, noted_in, unmet_in, unmet_of}
+use Rattle.renumber.specs.declared.spot.Spot.{Spot}
+use Rattle.renumber.specs.Memos.{MemoGoesOn, MemoState, noted_at, noted_in}
+use Rattle.renumber.specs.Walk.{IsOpen, MemoLists, Moves, missed, memo_of, State, Unless, every_table, unmet_in, unmet_of}
+use Rattle.renumber.proofs.MemoSteps.{goes_noted}
 
 -- ---- one entry more that was met
 
@@ -93,6 +96,7 @@ pub moves_then : (s k : Shape) (extra : ℕ) (a b c : State) (n m l : ℕ) → M
 moves_then s k extra a b c n m l w p q = record {
   same = q.same ∙ p.same;
   kept = λ base h. q.kept base (p.kept base h);
+  noted = λ base h. q.noted base (p.noted base h);
   still = still_of s (λ T. at c.memo T ≡ at a.memo T) (λ T e. still_at s (λ U. at c.memo U ≡ at b.memo U) q.still T e ∙ still_at k (λ U. at b.memo U ≡ at a.memo U) p.still T (w T e));
   most = omega (arith, p.most, q.most);
 }
@@ -102,6 +106,7 @@ pub moves_wider : (s k : Shape) (extra : ℕ) (a b : State) (n m : ℕ) → Ment
 moves_wider s k extra a b n m w p = record {
   same = p.same;
   kept = p.kept;
+  noted = p.noted;
   still = still_of s (λ T. at b.memo T ≡ at a.memo T) (λ T e. still_at k (λ U. at b.memo U ≡ at a.memo U) p.still T (w T e));
   most = p.most;
 }
@@ -124,15 +129,20 @@ index_elsewhere T U = by_test (same_table U T)
 
 -- ---- an entry that is entered
 
--- a key went into a table, and its place was noted: a step more at most, and an unmet entry less
-pub moves_noted : (a b : State) (T : Table) (place new n m : ℕ) → b.source ≡ a.source → ((base : Keys) → ArePrefixes base a.keys → ArePrefixes base b.keys)
-    → b.memo ≡ noted_in T place new a.memo → length a.memo ≡ 7 → place < length (at a.memo T) → get_or (at a.memo T) place None ≡ None → m ≤ n + 1 → Moves (index_into T) 0 a b n m
-moves_noted a b T place new n m same kept e seven l free one = record {
-  same = same;
-  kept = kept;
-  still = still_of (index_into T) (λ U. at b.memo U ≡ at a.memo U) (λ U h. ap (λ (x : MemoLists). at x U) e ∙ noted_elsewhere T place new a.memo seven U (index_elsewhere T U h));
-  most = omega (arith, one, ap unmet_of e, noted_unmet T place new a.memo seven l free);
-}
+-- a key went into a table, and its spot was noted: a step more at most, and an unmet entry less
+pub moves_noted : (a b : State) (s : Spot) (new n m : ℕ) → b.source ≡ a.source → ((base : Keys) → ArePrefixes base a.keys → ArePrefixes base b.keys)
+    → memo_of b ≡ noted_at s new (memo_of a) → length a.memo ≡ 7 → s.place < length (at a.memo (table_of s.kind)) → get_or (at a.memo (table_of s.kind)) s.place None ≡ None → m ≤ n + 1
+    → Moves (index_into (table_of s.kind)) 0 a b n m
+moves_noted a b s new n m same kept e seven l free one =
+    let T = table_of s.kind in
+    let lists : b.memo ≡ noted_in T s.place new a.memo = ap (λ (x : MemoState). x.lists) e in
+    record {
+      same = same;
+      kept = kept;
+      noted = λ base h. subst (MemoGoesOn base) (sym e) (goes_noted base (memo_of a) s new free h);
+      still = still_of (index_into T) (λ U. at b.memo U ≡ at a.memo U) (λ U h. ap (λ (x : MemoLists). at x U) lists ∙ noted_elsewhere T s.place new a.memo seven U (index_elsewhere T U h));
+      most = omega (arith, one, ap unmet_of lists, noted_unmet T s.place new a.memo seven l free);
+    }
 
 -- ---- an entry, and then its index
 

@@ -1,5 +1,5 @@
 -- What a walk over a message has, and what it does.
-use Rattle.std.specs.Prelude.{◌≡◌, ℕ, suc, ℤ, pos, ◌+◌, ◌<◌, ◌≤◌, ◌^◌, List, [], ◌∷◌, length, get_or, set, Bool, true, false, Option, Some, None, Result, Ok, Err}
+use Rattle.std.specs.Prelude.{◌≡◌, ℕ, suc, ℤ, pos, ◌+◌, ◌<◌, ◌≤◌, ◌^◌, List, [], ◌∷◌, length, get_or, Bool, true, false, Option, Some, None, Result, Ok, Err}
 use Rattle.schema.specs.Each.{Each}
 use Rattle.schema.specs.Moved.{mentions}
 use Rattle.schema.specs.Shape.{Shape, Value, Many, End, Table}
@@ -11,21 +11,24 @@ use Rattle.meaning.specs.Renumbering.{Ready}
 use Rattle.meaning.specs.Tables.{with_new}
 use Rattle.meaning.specs.Tree.{tree}
 use Rattle.dict_rec.specs.declared.dictionary.Dictionary.{Dictionary}
-use Rattle.pb_wire.specs.TableKinds.{place_of}
 use Rattle.key_tables.specs.Keys.{ArePrefixes, Keys, at}
 use Rattle.renumber.specs.Entries.{IsKey, index_into, new_entries, old_entries}
+use Rattle.renumber.specs.Memos.{MemoGoesOn, MemoState}
+pub use Rattle.renumber.specs.Memos.{MemoLists}
+use Rattle.renumber.specs.declared.spot.Spot.{Spot}
 
 -- ---- the state
 
--- the memo as a list for each table: by old index, the new one of each entry that was met
-abbrev pub MemoLists : Type 0
-MemoLists = List (List (Option ℕ))
-
--- the dictionary of the message, the keys of the new tables, and the memo
+-- the dictionary of the message, the keys of the new tables, and the memo: its lists, and the spots that were noted in them
 pub record State : Type 0 where
   pub source : Dictionary
   pub keys : Keys
   pub memo : MemoLists
+  pub noted : List Spot
+
+-- its memo
+abbrev pub memo_of : State → MemoState
+memo_of w = record { lists = w.memo; noted = w.noted }
 
 -- The state in the middle of a message with this dictionary: seven tables of keys, whose indexes have 31 bits, and a memo of
 -- entries that are in them.
@@ -35,10 +38,6 @@ pub record IsReady (old : Dictionary) (keys : Keys) (memo : MemoLists) : Type 0 
   pub few : (T : Table) → length (at keys T) < 2 ^ 31
   pub seven : length keys ≡ 7
   pub seven_memo : length memo ≡ 7
-
--- the memo with the new index of one more entry
-abbrev pub noted_in : Table → ℕ → ℕ → MemoLists → MemoLists
-noted_in T place new memo = set memo (place_of T) (set (at memo T) place (Some new))
 
 -- ---- steps
 
@@ -65,12 +64,13 @@ abbrev pub missed : {A E : Type 0} → Result A E → ℕ
 missed (Ok x) = 0
 missed (Err e) = 1
 
--- A walk over values of a shape leads from a to b, and the count of steps from n to m. It keeps the dictionary and what the
--- tables began with, and meets no entry of a table that the shape does not mention. Steps and unmet entries together do not
--- rise, but for the extra steps.
+-- A walk over values of a shape leads from a to b, and the count of steps from n to m. It keeps the dictionary, what the tables
+-- began with and the memo that its own goes on from, and meets no entry of a table that the shape does not mention. Steps and
+-- unmet entries together do not rise, but for the extra steps.
 pub record Moves (s : Shape) (extra : ℕ) (a b : State) (n m : ℕ) : Type 0 where
   pub same : b.source ≡ a.source
   pub kept : (base : Keys) → ArePrefixes base a.keys → ArePrefixes base b.keys
+  pub noted : (base : MemoState) → MemoGoesOn base (memo_of a) → MemoGoesOn base (memo_of b)
   pub still : Each (λ T. Unless (mentions T s) (at b.memo T ≡ at a.memo T)) every_table
   pub most : m + unmet b ≤ n + unmet a + extra
 

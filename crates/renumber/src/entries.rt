@@ -17,13 +17,13 @@ use tables::Steps;
 impl Meets for Function {
     fn meet<'w, 'd, S: BuildHasher + Drop, L: Ledger>(
         &self,
-        alloc: Global,
+        _alloc: Global,
         walk: &mut Walk<'w, 'd, S>,
         steps: &mut Steps<L>,
     ) -> Result<(), NoMemory> {
-        walk.string(alloc, &self.name_strindex, steps)?;
-        walk.string(alloc, &self.system_name_strindex, steps)?;
-        walk.string(alloc, &self.filename_strindex, steps)?;
+        walk.string(&self.name_strindex, steps)?;
+        walk.string(&self.system_name_strindex, steps)?;
+        walk.string(&self.filename_strindex, steps)?;
         Ok(())
     }
 }
@@ -55,12 +55,12 @@ impl Meets for Line {
 impl<'a> Meets for Attr<'a> {
     fn meet<'w, 'd, S: BuildHasher + Drop, L: Ledger>(
         &self,
-        alloc: Global,
+        _alloc: Global,
         walk: &mut Walk<'w, 'd, S>,
         steps: &mut Steps<L>,
     ) -> Result<(), NoMemory> {
-        walk.string(alloc, &self.key_strindex, steps)?;
-        walk.string(alloc, &self.unit_strindex, steps)?;
+        walk.string(&self.key_strindex, steps)?;
+        walk.string(&self.unit_strindex, steps)?;
         Ok(())
     }
 }
@@ -88,7 +88,7 @@ impl Meets for Mapping {
         walk: &mut Walk<'w, 'd, S>,
         steps: &mut Steps<L>,
     ) -> Result<(), NoMemory> {
-        walk.string(alloc, &self.filename_strindex, steps)?;
+        walk.string(&self.filename_strindex, steps)?;
         walk.indexes::<Attr<'d>, L>(alloc, self.attribute_indices.as_slice(), steps)?;
         Ok(())
     }

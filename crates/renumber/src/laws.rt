@@ -15,6 +15,7 @@ ghost use Rattle.meaning.specs.Tree.{tree};
 ghost use Rattle.dict_rec.specs.declared.dictionary.Dictionary.{Dictionary};
 ghost use Rattle.key_tables.specs.Keys.{Keys, at};
 ghost use Rattle.renumber.specs.Entries.{IsKey, IsPart, IsSource, new_entries, old_entries};
+ghost use Rattle.renumber.specs.Memos.{IsMemoMark, MemoGoesOn, MemoState, memo_back};
 ghost use Rattle.renumber.specs.Walk.{IsReady, MemoLists, State, WalkedEach};
 
 /// Deduplicated tables are ready for a message of whose entries none was met.
@@ -36,4 +37,15 @@ pub fn walked_values_are_renumbered()
 pub fn walked_records_are_short()
     ensures { (w : State) → IsSource w.source → IsReady w.source w.keys w.memo → (rs : List (Value resource_profiles)) → Each (IsPart resource_profiles w.source) rs → (number : ℕ)
         → length (items_text number (map (spell resource_profiles) (map (moved (index_in (at w.memo)) resource_profiles) rs))) ≤ 5 * length (items_text number (map (spell resource_profiles) rs)) }
+{}
+
+/// A memo that goes on from that of a mark can be cut back to it, and is that one again.
+pub fn memos_lead_back()
+    ensures { (mark : ℕ) → (a : MemoState) → (b : MemoState) → IsMemoMark mark a → MemoGoesOn a b → (mark ≤ length b.noted) × (memo_back mark b ≡ a) }
+{}
+
+/// Memos go on from themselves (`same`), and from those that the ones in between go on from (`over`).
+pub fn memos_go_on()
+    ensures same { (m : MemoState) → MemoGoesOn m m }
+    ensures over { (a : MemoState) → (b : MemoState) → (c : MemoState) → MemoGoesOn a b → MemoGoesOn b c → MemoGoesOn a c }
 {}

@@ -3,12 +3,15 @@
 
 mod entries;
 pub mod laws;
+mod mark;
 mod meets;
 mod memo;
 mod records;
 mod rows;
+mod spot;
 mod walk;
 
+pub use mark::MemoMark;
 pub use meets::{Entry, Meets};
 pub use memo::Memo;
 pub use walk::Walk;

@@ -14,12 +14,12 @@ use tables::Steps;
 impl Meets for ValueType {
     fn meet<'w, 'd, S: BuildHasher + Drop, L: Ledger>(
         &self,
-        alloc: Global,
+        _alloc: Global,
         walk: &mut Walk<'w, 'd, S>,
         steps: &mut Steps<L>,
     ) -> Result<(), NoMemory> {
-        walk.string(alloc, &self.type_strindex, steps)?;
-        walk.string(alloc, &self.unit_strindex, steps)?;
+        walk.string(&self.type_strindex, steps)?;
+        walk.string(&self.unit_strindex, steps)?;
         Ok(())
     }
 }

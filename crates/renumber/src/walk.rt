@@ -8,13 +8,13 @@ ghost use Rattle.meaning.specs.Memo.{Knows, index_in};
 ghost use Rattle.meaning.specs.Tables.{entry};
 ghost use Rattle.meaning.specs.Tree.{Integer, tree};
 ghost use Rattle.pb_wire.specs.TableKinds.{table_of};
-ghost use Rattle.tables.specs.KeyBytes.{bytes_of};
 ghost use Rattle.key_tables.specs.Keys.{at};
 ghost use Rattle.renumber.specs.Entries.{IsKeyOf, IsPart, IsSource, index_into, old_entries};
-ghost use Rattle.renumber.specs.Walk.{IsOpen, IsReady, IsUnmet, Moves, Walked, missed};
+ghost use Rattle.renumber.specs.Walk.{IsOpen, IsReady, IsUnmet, Moves, Walked, memo_of, missed};
 
 use crate::meets::{Entry, Meets};
 use crate::memo::Memo;
+use crate::spot::Spot;
 use dict_rec::Dictionary;
 use key_tables::KeyTables;
 use pb_wire::{Blob, NewIndexes, NoMemory, Rows, TableKind};
@@ -22,7 +22,7 @@ use std::alloc::Global;
 use std::hash::BuildHasher;
 use std::marker::Model;
 use std::sync::ledger::Ledger;
-use tables::{KeyBytes, Steps};
+use tables::Steps;
 
 /// The dictionary of a message, the tables of a new one, and the memo. It gives old indexes their new ones: an index that was
 /// not met becomes 0.
@@ -43,9 +43,9 @@ impl<'w, 'a, S: BuildHasher> Model for Walk<'w, 'a, S> {
 
     ghost coded = { Prim.hlevel (codes, any_code) };
 
-    ghost view = { λ w. record { source = w.source.now; keys = w.tables; memo = w.memo } };
+    ghost view = { λ w. record { source = w.source.now; keys = w.tables; memo = w.memo.lists; noted = w.memo.noted } };
 
-    ghost invariant = { λ w. IsSource w.source.now × IsReady w.source.now w.tables w.memo };
+    ghost invariant = { λ w. IsSource w.source.now × IsReady w.source.now w.tables w.memo.lists };
 }
 
 impl<'w, 'a, S: BuildHasher + Drop> NewIndexes for Walk<'w, 'a, S> {
@@ -76,10 +76,11 @@ impl<'w, 'a, S: BuildHasher + Drop> Walk<'w, 'a, S> {
     /// A walk over a message with this dictionary. It takes no memory.
     pub fn begin(source: &'w Dictionary<'a>, tables: KeyTables<S>, memo: Memo) -> Walk<'w, 'a, S>
         requires source { IsSource source.now }
-        requires ready { IsReady source.now tables memo }
+        requires ready { IsReady source.now tables memo.lists }
         ensures source { result.source ≡ source.now }
         ensures keys { result.keys ≡ tables }
-        ensures memo { result.memo ≡ memo }
+        ensures memo { result.memo ≡ memo.lists }
+        ensures noted { result.noted ≡ memo.noted }
     {
         Walk {
             source,
@@ -96,6 +97,17 @@ impl<'w, 'a, S: BuildHasher + Drop> Walk<'w, 'a, S> {
     {
         let Walk { tables, .. } = self;
         tables
+    }
+
+    /// The tables and the memo, handed back. It takes no memory.
+    pub fn into_parts(self) -> (KeyTables<S>, Memo)
+        ensures keys { result.0 ≡ self.entry.keys }
+        ensures memo { result.1 ≡ memo_of self.entry }
+        ensures source { IsSource self.entry.source }
+        ensures ready { IsReady self.entry.source result.0 result.1.lists }
+    {
+        let Walk { tables, memo, .. } = self;
+        (tables, memo)
     }
 
     /// The tables.
@@ -120,7 +132,7 @@ impl<'w, 'a, S: BuildHasher + Drop> Walk<'w, 'a, S> {
 
     // The place of an entry that was not met yet, or None for an index that is known.
     #[inline(always)]
-    fn unmet(&self, kind: TableKind, index: &i32) -> Option<usize>
+    fn unmet(&self, kind: TableKind, index: &i32) -> Option<u32>
         requires { IsPart (index_into (table_of kind)) self.now.source index.now }
         ensures { IsUnmet (table_of kind) self.now index.now result }
     {
@@ -128,8 +140,8 @@ impl<'w, 'a, S: BuildHasher + Drop> Walk<'w, 'a, S> {
         if *index == 0 {
             return None;
         }
-        let place = *index as usize;
-        match memo.get(kind, place) {
+        let place = *index as u32;
+        match memo.get(kind, place as usize) {
             Some(_) => None,
             None => Some(place),
         }
@@ -138,19 +150,18 @@ impl<'w, 'a, S: BuildHasher + Drop> Walk<'w, 'a, S> {
     // Enters a key for the entry at a place.
     fn enter_key<L: Ledger>(
         &mut self,
-        alloc: Global,
         kind: TableKind,
-        place: usize,
-        key: KeyBytes<'_>,
+        place: u32,
+        key: &[u8],
         steps: &mut Steps<L>,
     ) -> Result<(), NoMemory>
         requires place { IsOpen (table_of kind) self.old place }
-        requires key { IsKeyOf (table_of kind) self.old.source self.old.keys place (bytes_of key) }
+        requires key { IsKeyOf (table_of kind) self.old.source self.old.keys place key.now }
         ensures moves { Moves (index_into (table_of kind)) (missed result) self.old self.new steps.old steps.new }
         ensures walked { OnOk result (Walked (index_into (table_of kind)) self.old self.new (pos place)) }
     {
-        let new = self.tables.intern(alloc, kind, key, steps)?;
-        self.memo.note(kind, place, new);
+        let new = self.tables.intern(kind, key, steps)?;
+        self.memo.note(Spot { kind, place }, new)?;
         Ok(())
     }
 
@@ -159,7 +170,7 @@ impl<'w, 'a, S: BuildHasher + Drop> Walk<'w, 'a, S> {
         &mut self,
         alloc: Global,
         found: &E,
-        place: usize,
+        place: u32,
         steps: &mut Steps<L>,
     ) -> Result<(), NoMemory>
         requires place { IsOpen E.table self.old place }
@@ -173,7 +184,7 @@ impl<'w, 'a, S: BuildHasher + Drop> Walk<'w, 'a, S> {
         // A field of its own opens the invariant here.
         let _source = self.source;
         let text = text_with(alloc, found, &*self)?;
-        self.enter_key(alloc, kind, place, KeyBytes::Owned(text), steps)
+        self.enter_key(kind, place, text.as_slice(), steps)
     }
 
     /// Makes an index into the string table known.
@@ -181,12 +192,7 @@ impl<'w, 'a, S: BuildHasher + Drop> Walk<'w, 'a, S> {
     /// # Errors
     ///
     /// Out of memory.
-    pub fn string<L: Ledger>(
-        &mut self,
-        alloc: Global,
-        index: &i32,
-        steps: &mut Steps<L>,
-    ) -> Result<(), NoMemory>
+    pub fn string<L: Ledger>(&mut self, index: &i32, steps: &mut Steps<L>) -> Result<(), NoMemory>
         requires { IsPart (index_into Strings) self.old.source index.now }
         ensures moves { Moves (index_into Strings) (missed result) self.old self.new steps.old steps.new }
         ensures walked { OnOk result (Walked (index_into Strings) self.old self.new index.now) }
@@ -194,9 +200,8 @@ impl<'w, 'a, S: BuildHasher + Drop> Walk<'w, 'a, S> {
         match self.unmet(TableKind::String, index) {
             None => Ok(()),
             Some(place) => {
-                let found = &self.source().string_table.as_slice()[place];
-                let key = KeyBytes::Borrowed(found.as_bytes());
-                self.enter_key(alloc, TableKind::String, place, key, steps)
+                let found = &self.source().string_table.as_slice()[place as usize];
+                self.enter_key(TableKind::String, place, found.as_bytes(), steps)
             }
         }
     }
@@ -219,7 +224,7 @@ impl<'w, 'a, S: BuildHasher + Drop> Walk<'w, 'a, S> {
         match self.unmet(E::kind(), index) {
             None => Ok(()),
             Some(place) => {
-                let found = &E::entries(self.source())[place];
+                let found = &E::entries(self.source())[place as usize];
                 found.meet(alloc, self, steps)?;
                 self.enter(alloc, found, place, steps)
             }

@@ -114,7 +114,7 @@ entries_in d Strings = d.1.1.1.1.0
 entries_in d Attributes = d.1.1.1.1.1.0
 entries_in d Stacks = d.1.1.1.1.1.1.0
 
--- Envelope (ProfilesData, and the export request), of such records: 1 resource_profiles, 2 dictionary
+-- Envelope (ProfilesData, and the export request), over the shape of its resource records: 1 resource_profiles, 2 dictionary
 abbrev pub message : Shape → Shape
 message records = Many 1 records (One 2 dictionary End)
 

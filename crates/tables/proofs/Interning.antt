@@ -1,8 +1,9 @@
 -- What follows from a key's being interned: for the new list, for its image, and for cutting back.
-use Rattle.std.proofs.Common.{◌≡◌, ℕ, ◌+◌, ◌-◌, ◌<◌, ◌≤◌, ◌^◌, ◌⊎◌, inl, inr, List, [], ◌∷◌, ◌++◌, length, map, take, sym, ap, ◌∙◌, subst, arith, length-append}
+use Rattle.std.proofs.Common.{◌≡◌, ℕ, ◌+◌, ◌-◌, ◌<◌, ◌≤◌, ◌^◌, ◌⊎◌, inl, inr, List, [], ◌∷◌, ◌++◌, length, map, take, sym, ap, ◌∙◌, subst, arith, length-append, true≢false, Result, Ok, Err, IsErr}
 use Rattle.std.proofs.lemmas.List.{map-append, length-map, take-append-le}
+use Rattle.std.proofs.lemmas.Option.{none-some}
 use Rattle.std.proofs.Math.Seq.{take-length}
-use Rattle.tables.specs.Keys.{IsAt, IsAbsent, IsPlace, AreDistinct, Interned, AreTableKeys}
+use Rattle.tables.specs.Keys.{IsAt, IsAbsent, IsPlace, AreDistinct, Interned, IsInterning, AreTableKeys}
 use Rattle.tables.proofs.Places.{at_within, at_front, at_last, at_either, at_in_part, part_at, at_map, at_unmap, place_unique}
 
 -- ---- the new list
@@ -71,6 +72,37 @@ module _ {K : Type 0} (old : List K) (key : K) (new : List K) (place : ℕ) wher
   pub interned_cut : Interned old key new place → (n : ℕ) → n ≤ length old → take n new ≡ take n old
   interned_cut (inl h) n l = ap (take n) h.same
   interned_cut (inr h) n l = ap (take n) h.grown ∙ take-append-le n old (key ∷ []) l
+
+-- ---- what a table answers
+
+-- a place
+pub interning : {K E : Type 0} (old : List K) (key : K) (new : List K) (place : ℕ) → Interned old key new place → AreDistinct old → IsInterning {E = E} old key new (Ok place)
+interning old key new place h d = record {
+  ok = h;
+  err = tt;
+  absent = tt;
+  distinct = interned_distinct old key new place h d;
+  kept = (interned_length old key new place h).0;
+  one = (interned_length old key new place h).1;
+}
+
+-- or an error, where a new key was none
+pub no_interning : {K E : Type 0} (old : List K) (key : K) (new : List K) (result : Result ℕ E) → IsErr result → new ≡ old → IsAbsent old key → AreDistinct old
+    → IsInterning old key new result
+no_interning old key new (Ok place) e s a d = absurd (true≢false (sym e))
+no_interning old key new (Err stop) e s a d = record {
+  ok = tt;
+  err = s;
+  absent = a;
+  distinct = subst AreDistinct (sym s) d;
+  kept = omega (arith, ap length s);
+  one = omega (arith, ap length s);
+}
+
+-- the first key of all
+pub interned_first : {K : Type 0} (key : K) (new : List K) (place : ℕ) → Interned [] key new place → new ≡ key ∷ []
+interned_first key new place (inl h) = absurd (none-some key h.had.0)
+interned_first key new place (inr h) = h.grown
 
 -- answer and list are determined
 pub interned_once : {K : Type 0} (old : List K) (key : K) (new new' : List K) (i j : ℕ) → Interned old key new i → Interned old key new' j

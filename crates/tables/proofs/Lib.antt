@@ -1,3 +1,5 @@
 mod Search
 pub mod Places
 pub mod Interning
+mod ChainSteps
+mod KeyRuns

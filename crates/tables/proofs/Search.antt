@@ -1,5 +1,5 @@
 -- What looking for a key by a test of equality finds.
-use Rattle.std.proofs.Common.{Result, Ok, Err, OnErr, ◌≡◌, ℕ, zero, suc, ◌+◌, ◌<◌, ◌⊎◌, inl, inr, List, [], ◌∷◌, ◌++◌, length, Bool, true, false, cond, not, ◌||◌, position, Some, None, if◌then◌else◌, nat_lt, refl, sym, ap, ◌∙◌, subst, true≢false, arith}
+use Rattle.std.proofs.Common.{◌≡◌, ℕ, zero, suc, ◌+◌, ◌<◌, ◌⊎◌, inl, inr, List, [], ◌∷◌, ◌++◌, length, Bool, true, false, cond, not, ◌||◌, position, Some, None, if◌then◌else◌, nat_lt, refl, sym, ap, ◌∙◌, subst, true≢false, arith}
 use Rattle.std.proofs.lemmas.Option.{slice_get_within, none-some, same_Some, cond_some}
 use Rattle.std.proofs.lemmas.Bool.{ltb-true, lt-ltb}
 use Rattle.std.specs.Cmp.{IsEquivalence}
@@ -69,8 +69,3 @@ module _ {K : Type 0} (eq : K → K → Bool) (laws : IsEquivalence eq) (same : 
         absurd (none-some n (sym h ∙ ap (λ b. cond b (Some n) None) l))
     | inr m ↦ m.1
   ]
-
--- what holds whatever the result holds where it is an error
-pub on_err : {T E : Type 0} (result : Result T E) {P : Type 0} → P → OnErr result P
-on_err (Ok _) p = tt
-on_err (Err _) p = p

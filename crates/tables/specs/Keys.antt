@@ -1,6 +1,6 @@
 -- Lists of distinct keys, in the order in which the keys were first met, and the places of keys in a list. Places count
 -- from 0. Two keys are the same where they are equal as values.
-use Rattle.std.specs.Prelude.{◌≡◌, ◌<◌, ◌^◌, ℕ, List, [], ◌∷◌, ◌++◌, length, slice_get, Some, ◌⊎◌}
+use Rattle.std.specs.Prelude.{◌≡◌, ◌<◌, ◌≤◌, ◌+◌, ◌^◌, ℕ, List, [], ◌∷◌, ◌++◌, length, slice_get, Some, ◌⊎◌, Result, IfOk, OnErr}
 
 -- the key is at this place of the list
 abbrev pub IsAt : {K : Type 0} → List K → K → ℕ → Type 0
@@ -32,6 +32,15 @@ pub record IsAdded {K : Type 0} (old : List K) (key : K) (new : List K) (place :
 -- what is answered for a key, and what the list becomes: its place where it has one, and else a new place at the end
 abbrev pub Interned : {K : Type 0} → List K → K → List K → ℕ → Type 0
 Interned old key new place = IsFound old key new place ⊎ IsAdded old key new place
+
+-- a key was interned, or else memory was out for a new one; the keys are distinct, and one more at most
+pub record IsInterning {K E : Type 0} (old : List K) (key : K) (new : List K) (result : Result ℕ E) : Type 0 where
+  pub ok : IfOk result (Interned old key new)
+  pub err : OnErr result (new ≡ old)
+  pub absent : OnErr result (IsAbsent old key)
+  pub distinct : AreDistinct new
+  pub kept : length old ≤ length new
+  pub one : length new ≤ length old + 1
 
 -- what a table keeps of its keys: they are distinct, and each place fits an index of the format
 pub record AreTableKeys {K : Type 0} (keys : List K) : Type 0 where

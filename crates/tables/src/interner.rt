@@ -6,9 +6,9 @@ use std::sync::ledger::Ledger;
 
 /// Distinct keys in the order in which they were first met. The place of a key is its index, from 0.
 pub trait Interner<K> {
-    ghost use Rattle.std.specs.Prelude.{◌≡◌, ◌+◌, ◌-◌, ◌^◌, ◌<◌, ◌≤◌, ◌↔◌, List, length, take, slice_get, IsSome, IfOk, OnErr};
+    ghost use Rattle.std.specs.Prelude.{◌≡◌, ◌+◌, ◌-◌, ◌^◌, ◌<◌, ◌≤◌, ◌↔◌, List, length, take, slice_get, IsSome};
     ghost use Rattle.std.specs.Option.{option_copied};
-    ghost use Rattle.tables.specs.Keys.{AreDistinct, IsAbsent, Interned};
+    ghost use Rattle.tables.specs.Keys.{AreDistinct, IsInterning};
 
     ghost keys: { Self → List K };
 
@@ -19,12 +19,7 @@ pub trait Interner<K> {
     /// Out of memory for a new key, which is dropped. The keys are as before, and the step is counted.
     fn intern<L: Ledger>(&mut self, key: K, steps: &mut Steps<L>) -> Result<u32, NoMemory>
         requires few { length (keys self.old) < 2 ^ 31 - 1 }
-        ensures ok { IfOk result (λ place. Interned (keys self.old) key (keys self.new) place) }
-        ensures err { OnErr result (keys self.new ≡ keys self.old) }
-        ensures absent { OnErr result (IsAbsent (keys self.old) key) }
-        ensures distinct { AreDistinct (keys self.new) }
-        ensures kept { length (keys self.old) ≤ length (keys self.new) }
-        ensures one { length (keys self.new) ≤ length (keys self.old) + 1 }
+        ensures interned { IsInterning (keys self.old) key (keys self.new) result }
         ensures steps { steps.new ≡ steps.old + 1 };
 
     /// The key with this index, or None where the index is at least the number of keys. It takes no memory.

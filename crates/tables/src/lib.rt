@@ -2,20 +2,22 @@
 //! their steps.
 #![tactic(auto)]
 
+mod bytes_table;
 mod entry_key;
 mod interner;
 mod key;
-mod key_bytes;
+mod key_row;
+mod key_run;
+mod linking;
 mod mark;
-mod query;
 mod searched_table;
 mod steps;
 mod table;
 
+pub use bytes_table::BytesTable;
 pub use entry_key::EntryKey;
 pub use interner::Interner;
 pub use key::Key;
-pub use key_bytes::KeyBytes;
 pub use mark::Mark;
 pub use searched_table::SearchedTable;
 pub use steps::Steps;

@@ -1,9 +1,8 @@
 //! A table that is hashed.
-ghost use Rattle.std.specs.Prelude.{◌≡◌, ◌+◌, ◌-◌, ◌^◌, ◌<◌, ◌≤◌, ◌∷◌, [], length, IfOk, OnErr, IsOkAnd};
-ghost use Rattle.tables.specs.Keys.{AreDistinct, IsAbsent, Interned};
+ghost use Rattle.std.specs.Prelude.{◌≡◌, ◌-◌, ◌^◌, ◌<◌, ◌∷◌, [], length, IfOk, IsOkAnd};
+ghost use Rattle.tables.specs.Keys.{IsInterning};
 
-use crate::query::Query;
-use crate::{EntryKey, Interner, Key, Mark, Steps};
+use crate::{Interner, Key, Mark, Steps};
 use indexmap::IndexSet;
 use pb_wire::NoMemory;
 use std::alloc::Global;
@@ -62,45 +61,10 @@ impl<K: Key + Drop, S: BuildHasher> Table<K, S> {
     // The index of the key. A key that is not there yet goes to the end. It counts no step.
     fn insert(&mut self, key: K) -> Result<u32, NoMemory>
         requires few { length self.old < 2 ^ 31 - 1 }
-        ensures ok { IfOk result (λ place. Interned self.old key self.new place) }
-        ensures err { OnErr result (self.new ≡ self.old) }
-        ensures absent { OnErr result (IsAbsent self.old key) }
-        ensures distinct { AreDistinct self.new }
-        ensures kept { length self.old ≤ length self.new }
-        ensures one { length self.new ≤ length self.old + 1 }
+        ensures interned { IsInterning self.old key self.new result }
     {
         let (place, _) = self.set.insert_full(key)?;
         Ok(place as u32)
-    }
-}
-
-impl<S: BuildHasher> Table<EntryKey, S> {
-    /// The index of the key of these bytes. Only where it is not there yet are they copied, and it goes to the end. It counts
-    /// exactly one step.
-    ///
-    /// # Errors
-    ///
-    /// Out of memory for a new key. The keys are as before, and the step is counted.
-    pub fn intern_copy<L: Ledger>(
-        &mut self,
-        alloc: Global,
-        bytes: &[u8],
-        steps: &mut Steps<L>,
-    ) -> Result<u32, NoMemory>
-        requires few { length self.old < 2 ^ 31 - 1 }
-        ensures ok { IfOk result (λ place. Interned self.old bytes.now self.new place) }
-        ensures err { OnErr result (self.new ≡ self.old) }
-        ensures absent { OnErr result (IsAbsent self.old bytes.now) }
-        ensures distinct { AreDistinct self.new }
-        ensures kept { length self.old ≤ length self.new }
-        ensures one { length self.new ≤ length self.old + 1 }
-        ensures steps { steps.new ≡ steps.old + 1 }
-    {
-        steps.tick();
-        match self.set.get_index_of(Query { bytes }) {
-            Some(found) => Ok(found as u32),
-            None => self.insert(EntryKey::copy_of(alloc, bytes)?),
-        }
     }
 }
 

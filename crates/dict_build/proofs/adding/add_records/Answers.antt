@@ -15,8 +15,8 @@ use Rattle.dict_build.proofs.adding.add_records.Goals as goal
 
 pub begin-walk-requires-clause-ready : goal.begin-walk-requires-clause-ready
 begin-walk-requires-clause-ready g c =
-    subst (λ (k : Keys). IsReady c.args.dictionary.now k c.in_ok-memo.memo) (sym c.take.ensures.taken)
-    (draft_ready c.args.dictionary.now (contents c.args.tables.now c.args.records.now) c.requires.stands.0 c.in_ok-memo.memo c.requires.stands.1.draft c.in_ok-memo.ensures.seven
+    subst (λ (k : Keys). IsReady c.args.dictionary.now k c.in_ok-memo.memo.lists) (sym c.take.ensures.taken)
+    (draft_ready c.args.dictionary.now (contents c.args.tables.now c.args.records.now) c.requires.stands.0 c.in_ok-memo.memo.lists c.requires.stands.1.draft c.in_ok-memo.ensures.seven
     c.in_ok-memo.ensures.none)
 
 pub put_records-done-requires : goal.put_records-done-requires
@@ -53,7 +53,7 @@ returns-clause-fault g c =
     } in
     if_err c.put_records-done.result
     (λ fault q. refused c.args.dictionary.now c.args.tables.now c.into_tables.result c.begin-walk.result c.put_records-done.new.walk l (map resource_profiles_view c.args.added.now)
-    c.args.records.now fault q)
+    c.args.records.now fault c.requires.fits q)
     c.put_records-done.ensures.fault
 
 pub returns-clause-grown : goal.returns-clause-grown

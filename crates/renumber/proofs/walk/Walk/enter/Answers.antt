@@ -1,4 +1,4 @@
-use Rattle.std.proofs.Common.{sym, subst}
+use Rattle.std.proofs.Common.{sym, subst, ◌∙◌}
 use Rattle.renumber.specs.Entries.{IsKeyOf, IsSource}
 use Rattle.renumber.specs.Walk.{IsReady, State}
 use Rattle.renumber.proofs.Entering.{found_key, part_short}
@@ -15,7 +15,7 @@ enter_key-requires-clause-key g c =
     let w : State = c.args.self.now in
     let T = g.E.Entry.table in
     let h : IsSource w.source × IsReady w.source w.keys w.memo = rw (← c.self.view_is) c.self.invariant in
-    subst (λ U. IsKeyOf U w.source w.keys c.args.place c.in_ok-text.text) (sym c.kind-kind.ensures.kind)
-    (subst (λ b. IsKeyOf T w.source w.keys c.args.place b) (sym c.in_ok-text.ensures)
+    subst (λ U. IsKeyOf U w.source w.keys c.args.place c.as_slice.result.now) (sym c.kind-kind.ensures.kind)
+    (subst (λ b. IsKeyOf T w.source w.keys c.args.place b) (sym (c.as_slice.ensures ∙ c.in_ok-text.ensures))
     (found_key T g.E.Rows.shape c.kind-kind.ensures.shape g.met.E.Rows.message g.met.E.Rows.lawful w.source w.keys w.memo (g.E.Rows.view c.args.found.now) c.args.place h.0 h.1
     c.requires.part c.requires.here c.requires.known))

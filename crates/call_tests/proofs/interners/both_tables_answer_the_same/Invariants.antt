@@ -1,5 +1,0 @@
--- The ledger of the test's counter.
-use Rattle.call_tests.proofs.interners.both_tables_answer_the_same.Given as goal
-
-abbrev pub ghosts-try_both : goal.ghosts-try_both
-ghosts-try_both g a = record { name = a.blank.name; parts = a.blank.parts }
