@@ -1,4 +1,4 @@
-"""What `bench/canon` and `bench/merge` share: the programs that are measured, how they are measured, and how tables are printed."""
+"""What `bench/canon`, `bench/merge` and `bench/split` share: the programs that are measured, how they are measured, and how tables are printed."""
 
 import os
 import re
@@ -73,9 +73,9 @@ def peak_memory(command, folder):
 class Tools:
     """The tools that are installed. All files are kept in `folder`."""
 
-    def __init__(self, folder):
+    def __init__(self, folder, with_peer=True):
         self.folder = folder
-        self.peer = built_peer(folder)
+        self.peer = built_peer(folder) if with_peer else None
         self.valgrind = works("valgrind", "--version")
         self.gnu_time = works("time", "-f", "%M", "true")
         if not self.valgrind:

@@ -1,5 +1,5 @@
 //! The lists in a value.
-ghost use Rattle.std.specs.Prelude.{◌≡◌, ◌++◌, ◌∷◌, [], ◌<◌, OnOk, OnErr, OnSome, length, slice_get};
+ghost use Rattle.std.specs.Prelude.{◌≡◌, ◌++◌, ◌∷◌, [], ◌<◌, OnOk, OnErr, OnSome, length, map, slice_get};
 ghost use Rattle.std.specs.Option.{option_copied, option_map};
 ghost use Rattle.any_value.specs.Views.{any_view, pair_view};
 
@@ -38,6 +38,13 @@ impl<'a> Values<'a> {
     {
         self.inner.get(place)
     }
+
+    /// The values in order. It takes no memory.
+    pub fn as_slice(&self) -> &[Value<'a>]
+        ensures { map any_view result.now ≡ self.now }
+    {
+        &self.inner
+    }
 }
 
 impl<'a> KeyValues<'a> {
@@ -69,5 +76,12 @@ impl<'a> KeyValues<'a> {
         ensures within { OnSome result (place < length self.now) }
     {
         self.inner.get(place)
+    }
+
+    /// The keys and values in order. It takes no memory.
+    pub fn as_slice(&self) -> &[KeyValue<'a>]
+        ensures { map pair_view result.now ≡ self.now }
+    {
+        &self.inner
     }
 }

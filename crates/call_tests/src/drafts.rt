@@ -1,6 +1,6 @@
 //! Drafts, against bytes and sizes that were worked out by hand from the definition of canonical bytes.
 ghost use Rattle.std.specs.Prelude.{◌≡◌, ◌<◌};
-ghost use Rattle.dict_build.specs.Marks.{GoesOn};
+ghost use Rattle.draft_contents.specs.Marks.{GoesOn};
 
 use dict_build::{BuildFault, Draft};
 use otlp_msg::read_message;
@@ -39,7 +39,7 @@ const LONG_FRONT: &[u8] =
     b"\x0a\xfb\xff\xff\x0f\x12\xf6\xff\xff\x0f\x12\xf1\xff\xff\x0f\x52\xec\xff\xff\x0f";
 
 // Adds a message, and gives the size of the draft then.
-#[tactic(auto, using(dict_build::proofs::Marks::goes_itself))]
+#[tactic(auto, using(draft_contents::proofs::Marks::goes_itself))]
 fn add<L: Ledger>(
     alloc: Global,
     draft: &mut Draft<FixedSeeds>,
@@ -60,7 +60,7 @@ fn add<L: Ledger>(
 }
 
 // Adds a message and goes back to the mark before it. Gives the size of the draft with the message.
-#[tactic(auto, using(dict_build::proofs::Marks::can_go_back, dict_build::proofs::Marks::marked_back))]
+#[tactic(auto, using(draft_contents::proofs::Marks::can_go_back, draft_contents::proofs::Marks::marked_back))]
 fn add_and_go_back<L: Ledger>(
     alloc: Global,
     draft: &mut Draft<FixedSeeds>,

@@ -1,7 +1,7 @@
 -- What is known of an answer for any messages that are held is known of it for these.
 use Rattle.std.proofs.Common.{◌≡◌, ℕ, List, Result, Ok, Err, IfOk, IfErr}
 use Rattle.otlp_msg.specs.Message.{Message}
-use Rattle.dict_build.specs.declared.fault.BuildFault.{BuildFault}
+use Rattle.draft_contents.specs.declared.fault.BuildFault.{BuildFault}
 use Rattle.split_merge.specs.Canonical.{IsBuildFault}
 use Rattle.split_merge.specs.Merged.{merged}
 use Rattle.collector.specs.Outputs.{IsBuilt}

@@ -1,7 +1,7 @@
 -- What commands write.
 use Rattle.std.specs.Prelude.{◌≡◌, ℕ, List, [], ◌∷◌, length, Result, Ok, Err, IfOk, IfErr}
-use Rattle.dict_build.specs.declared.fault.BuildFault.{BuildFault}
-use Rattle.dict_build.specs.declared.fault.BuildFault.TheVariants as build
+use Rattle.draft_contents.specs.declared.fault.BuildFault.{BuildFault}
+use Rattle.draft_contents.specs.declared.fault.BuildFault.TheVariants as build
 use Rattle.split_merge.specs.Canonical.{IsBuildFault}
 use Rattle.collector.specs.declared.output.Output.{Output}
 use Rattle.collector.specs.declared.stop.ToolRefusal.TheVariants.{Limit}

@@ -1,6 +1,6 @@
 //! The output of bytes that were built.
 ghost use Rattle.std.specs.Prelude.{◌≡◌, [], ◌∷◌, ℕ, List, Result, IfOk, IfErr};
-ghost use Rattle.dict_build.specs.declared.fault.BuildFault.{BuildFault as Fault};
+ghost use Rattle.draft_contents.specs.declared.fault.BuildFault.{BuildFault as Fault};
 ghost use Rattle.split_merge.specs.Canonical.{Meaning, IsAcceptedAs, IsBuildFault, IsOnlyOf};
 ghost use Rattle.collector.specs.Delivery.{names_of};
 ghost use Rattle.collector.specs.Outputs.{IsBuilt, built_file, one_file};

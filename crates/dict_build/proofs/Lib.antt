@@ -1,11 +1,1 @@
-pub mod Results
-pub mod Dictionaries
-pub mod DraftContents
-pub mod Additions
-pub mod LeftOut
-pub mod Acceptance
-pub mod Drafts
-pub mod Joins
-pub mod Lengths
-pub mod Rows
-pub mod Marks
+pub mod Going

@@ -1,5 +1,2 @@
-pub mod Contents
-pub mod Adding
-pub mod Meanings
-pub mod Draft
-pub mod Marks
+pub mod Adders
+pub mod States

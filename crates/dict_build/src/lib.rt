@@ -1,17 +1,10 @@
-//! The draft of a message: the parts of messages' records with their new indexes, and the tables that these point into.
+//! The draft of a message, to which messages and single profiles are added.
 #![tactic(auto)]
 
-mod adding;
-mod contents;
-mod dictionary;
+mod adder;
 mod draft;
-mod fault;
-pub mod laws;
-mod mark;
-mod measure;
-mod put;
-mod unrepeated;
+mod state;
 
+pub use adder::ProfileAdder;
 pub use draft::Draft;
-pub use fault::BuildFault;
-pub use mark::DraftMark;
+pub use draft_contents::{BuildFault, DraftMark, Joining};

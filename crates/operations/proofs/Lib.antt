@@ -10,6 +10,10 @@ pub mod Drafts
 pub mod Heads
 pub mod Apart
 pub mod Repeated
+pub mod HeadPlaces
 pub mod PartProfiles
 pub mod Regrouped
+pub mod Later
+pub mod OneMore
+pub mod Prefixes
 pub mod Meanings

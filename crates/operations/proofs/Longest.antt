@@ -1,12 +1,12 @@
 -- The longest prefix that fits, and that the parts are the whole list.
-use Rattle.std.proofs.Common.{◌≡◌, ℕ, zero, suc, ◌<◌, ◌≤◌, List, [], ◌∷◌, ◌++◌, length, take, drop, Bool, true, false, cond, refl, sym, ap, ◌∙◌, arith, ◌⊎◌, inl, inr}
+use Rattle.std.proofs.Common.{◌≡◌, ℕ, zero, suc, ◌<◌, ◌≤◌, List, [], ◌∷◌, ◌++◌, length, map, take, drop, Bool, true, false, cond, refl, sym, ap, ◌∙◌, arith, ◌⊎◌, inl, inr}
 use Rattle.std.specs.Prelude.{nat_lt}
 use Rattle.std.specs.List.{flat_map}
 use Rattle.std.proofs.lemmas.List.{take-append-drop}
 use Rattle.std.proofs.lemmas.Bool.{cases_lt, lt-ltb, le-ltb, ltb-true}
 use Rattle.schema.specs.Each.{Each}
-use Rattle.operations.specs.Flat.{FlatProfile}
-use Rattle.operations.specs.Cuts.{size_of, longest_fit, first_length, cut}
+use Rattle.operations.specs.Flat.{FlatProfile, group}
+use Rattle.operations.specs.Cuts.{size_of, longest_fit, first_length, cut, flat_parts}
 use Rattle.operations.proofs.Growing.{prefix-shorter}
 
 take-more : {X : Type 0} (n m : ℕ) (xs : List X) → n ≤ m → (ys : List X) × (take m xs ≡ take n xs ++ ys)
@@ -109,7 +109,7 @@ cut-next limit e l =
 -- ---- the size of parts
 
 -- the number that is found fits, or is 1
-longest-fits : (limit : ℕ) (size : ℕ → ℕ) (n : ℕ) → (size (longest_fit limit size n) ≤ limit) ⊎ (longest_fit limit size n ≡ 1)
+pub longest-fits : (limit : ℕ) (size : ℕ → ℕ) (n : ℕ) → (size (longest_fit limit size n) ≤ limit) ⊎ (longest_fit limit size n ≡ 1)
 longest-fits limit size zero = inr refl
 longest-fits limit size (suc n) = elim (cases_lt limit (size (suc n))) [
   | inl lt ↦ let t = lt-ltb limit (size (suc n)) lt in rw t (longest-fits limit size n)
@@ -131,3 +131,28 @@ cut-fits (suc more) limit (e ∷ l) =
         → (size_of (take (first_length limit (e ∷ l)) (e ∷ l)) ≤ limit) ⊎ (length (take (first_length limit (e ∷ l)) (e ∷ l)) ≡ 1)
     first (inl h) = inl h
     first (inr h) = inr (take-one (first_length limit (e ∷ l)) e l h)
+
+-- ---- one part after the other
+
+-- it is no more than the number itself
+longest-most : (limit : ℕ) (size : ℕ → ℕ) (n : ℕ) → longest_fit limit size (suc n) ≤ suc n
+longest-most limit size zero = by_test (nat_lt limit (size 1))
+  where
+    by_test : (b : Bool) → cond b 1 1 ≤ 1
+    by_test true = omega arith
+    by_test false = omega arith
+longest-most limit size (suc n) = by_test (nat_lt limit (size (suc (suc n)))) (longest-most limit size n)
+  where
+    by_test : (b : Bool) → longest_fit limit size (suc n) ≤ suc n → cond b (longest_fit limit size (suc n)) (suc (suc n)) ≤ suc (suc n)
+    by_test true h = omega arith
+    by_test false h = omega arith
+
+pub first-between : (limit : ℕ) (l : List FlatProfile) → 0 < length l → (0 < first_length limit l) × (first_length limit l ≤ length l)
+first-between limit [] h = absurd (omega arith)
+first-between limit (e ∷ l) h =
+    let size : ℕ → ℕ = λ n. size_of (take n (e ∷ l)) in (longest-some limit size (length (e ∷ l)), longest-most limit size (length l))
+
+pub parts-next : (limit : ℕ) (l : List FlatProfile) → 0 < length l → let n = first_length limit l in
+    (flat_parts limit l ≡ group (take n l) ∷ flat_parts limit (drop n l))
+parts-next limit [] h = absurd (omega arith)
+parts-next limit (e ∷ l) h = ap (map group) (cut-next limit e l)

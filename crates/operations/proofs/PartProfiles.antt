@@ -1,65 +1,21 @@
 -- The parts of meanings have their profiles.
-use Rattle.std.proofs.Common.{◌≡◌, ℕ, zero, suc, ◌+◌, ◌<◌, List, [], ◌∷◌, ◌++◌, length, map, take, drop, get_or, Bool, true, false, cond, refl, sym, ap, subst, ◌∙◌, arith, append_assoc}
+use Rattle.std.proofs.Common.{◌≡◌, ℕ, zero, suc, List, [], ◌∷◌, ◌++◌, length, map, take, drop, Bool, true, false, cond, refl, sym, ap, subst, ◌∙◌, arith, append_assoc}
 use Rattle.std.specs.Prelude.{◌==◌}
 use Rattle.std.specs.List.{flat_map}
 use Rattle.std.proofs.lemmas.Bool.{eqb-true}
 use Rattle.std.proofs.lemmas.List.{map-append, take-append-drop}
 use Rattle.std.proofs.lemmas.List.Folds.{flat_map-map}
 use Rattle.schema.specs.Each.{Each}
-use Rattle.schema_laws.proofs.Lists.{each_append, each_left, each_right}
+use Rattle.schema_laws.proofs.Lists.{each_left, each_right}
 use Rattle.meaning.specs.Tree.{Tree, Nil}
-use Rattle.parts.specs.Records.{held}
 use Rattle.operations.specs.Outlines.{head, holding, ResourceItem, ScopeItem, ProfileItem}
-use Rattle.operations.specs.Flat.{FlatProfile, flat_profile, flat_scopes, flat_resources, flat, bare, items_after, Gathered, with_item, gathered, group}
+use Rattle.operations.specs.Flat.{FlatProfile, flat, bare, HasHeadsOf, items_after, Gathered, with_item, gathered, group}
 use Rattle.operations.specs.Cuts.{first_length, cut, parts}
 use Rattle.operations.proofs.Bare.{Bare, under, in_scope, in_resource, bare-from, bare-one, each-one}
+use Rattle.operations.proofs.HeadPlaces.{flat-placed, same-resource, same-scope, resource-head, scope-head}
 use Rattle.operations.proofs.Joining.{held-holding}
 use Rattle.operations.proofs.Longest.{cut-all}
 use Rattle.operations.proofs.Walks.{flat-flat}
-
--- ---- places tell heads
-
--- The heads of a flat profile are those of the records at its places, among these.
-abbrev at : List Tree → ℕ → Tree
-at rs n = get_or rs n Nil
-
-pub record IsAtItsPlace (rs : List Tree) (e : FlatProfile) : Type 0 where
-  pub resource : e.resource ≡ head (at rs e.resource_place)
-  pub scope : e.scope ≡ head (at (held (at rs e.resource_place)) e.scope_place)
-
-profiles-placed : (rs : List Tree) (r s : Tree) (i j : ℕ) → r ≡ at rs i → s ≡ at (held (at rs i)) j
-    → (ps : List Tree) → Each (IsAtItsPlace rs) (map (flat_profile (head r) (head s) i j) ps)
-profiles-placed rs r s i j f g [] = tt
-profiles-placed rs r s i j f g (p ∷ ps) = (record { resource = ap head f; scope = ap head g }, profiles-placed rs r s i j f g ps)
-
-scopes-placed : (rs : List Tree) (r : Tree) (i j : ℕ) → r ≡ at rs i → (ss : List Tree) → ((n : ℕ) → n < length ss → at ss n ≡ at (held (at rs i)) (j + n))
-    → Each (IsAtItsPlace rs) (flat_scopes (head r) i j ss)
-scopes-placed rs r i j f [] g = tt
-scopes-placed rs r i j f (s ∷ ss) g =
-    let z : j + 0 ≡ j = omega arith in
-    let here : s ≡ at (held (at rs i)) j = g 0 (omega arith) ∙ ap (at (held (at rs i))) z in
-    let rest : (n : ℕ) → n < length ss → at ss n ≡ at (held (at rs i)) (suc j + n) =
-    λ n l. let e : j + suc n ≡ suc j + n = omega arith in g (suc n) (omega arith) ∙ ap (at (held (at rs i))) e in
-    each_append (IsAtItsPlace rs) (map (flat_profile (head r) (head s) i j) (held s)) (flat_scopes (head r) i (suc j) ss)
-    (profiles-placed rs r s i j f here (held s)) (scopes-placed rs r i (suc j) f ss rest)
-
-resources-placed : (rs : List Tree) (i : ℕ) (more : List Tree) → ((n : ℕ) → n < length more → at more n ≡ at rs (i + n))
-    → Each (IsAtItsPlace rs) (flat_resources i more)
-resources-placed rs i [] g = tt
-resources-placed rs i (r ∷ more) g =
-    let z : i + 0 ≡ i = omega arith in
-    let here : r ≡ at rs i = g 0 (omega arith) ∙ ap (at rs) z in
-    let rest : (n : ℕ) → n < length more → at more n ≡ at rs (suc i + n) =
-    λ n l. let e : i + suc n ≡ suc i + n = omega arith in g (suc n) (omega arith) ∙ ap (at rs) e in
-    each_append (IsAtItsPlace rs) (flat_scopes (head r) i 0 (held r)) (flat_resources (suc i) more)
-    (scopes-placed rs r i 0 here (held r) (λ n l. let e : n ≡ 0 + n = omega arith in ap (λ t. at (held t) n) here ∙ ap (at (held (at rs i))) e)) (resources-placed rs (suc i) more rest)
-
--- and they are heads alone
-resource-head : (rs : List Tree) (e : FlatProfile) → IsAtItsPlace rs e → head e.resource ≡ e.resource
-resource-head rs e p = ap head p.resource ∙ sym p.resource
-
-scope-head : (rs : List Tree) (e : FlatProfile) → IsAtItsPlace rs e → head e.scope ≡ e.scope
-scope-head rs e p = ap head p.scope ∙ sym p.scope
 
 -- ---- grouped profiles
 
@@ -78,7 +34,7 @@ after-resource h s g t o =
     ap (λ l. flat_map (in_scope (head g)) l ++ flat_map in_resource o.resources) (held-holding g (holding t o.profiles ∷ o.scopes))
     ∙ after-scope (head g) s t o
 
-after-listed : (rs : List Tree) (l : List FlatProfile) (e : FlatProfile) → IsAtItsPlace rs e → Each (IsAtItsPlace rs) l
+after-listed : (rs : List Tree) (l : List FlatProfile) (e : FlatProfile) → HasHeadsOf rs e → Each (HasHeadsOf rs) l
     → listed_under e.resource e.scope (gathered (items_after e l)) ≡ map bare l
 after-listed rs [] e p q = refl
 after-listed rs (f ∷ l) e p q = by_tests (e.resource_place == f.resource_place) (e.scope_place == f.scope_place) (ap (λ x. bare f ∷ x) (after-listed rs l f q.0 q.1)) refl refl
@@ -86,30 +42,23 @@ after-listed rs (f ∷ l) e p q = by_tests (e.resource_place == f.resource_place
     o : Gathered
     o = gathered (ProfileItem f.profile ∷ items_after f l)
 
-    same-resource : e.resource_place ≡ f.resource_place → e.resource ≡ f.resource
-    same-resource x = p.resource ∙ ap (λ n. head (at rs n)) x ∙ sym q.0.resource
-
-    same-scope : e.resource_place ≡ f.resource_place → e.scope_place ≡ f.scope_place → e.scope ≡ f.scope
-    same-scope x y =
-        p.scope ∙ ap (λ n. head (at (held (at rs n)) e.scope_place)) x ∙ ap (λ n. head (at (held (at rs f.resource_place)) n)) y ∙ sym q.0.scope
-
     by_tests : (b c : Bool) → listed_under f.resource f.scope o ≡ map bare (f ∷ l) → (e.resource_place == f.resource_place) ≡ b → (e.scope_place == f.scope_place) ≡ c
         → listed_under e.resource e.scope (gathered (cond b (cond c [] (ScopeItem f.scope ∷ [])) (ResourceItem f.resource ∷ ScopeItem f.scope ∷ []) ++ ProfileItem f.profile ∷ items_after f l))
         ≡ map bare (f ∷ l)
     by_tests true true here x y =
         let i : e.resource_place ≡ f.resource_place = eqb-true e.resource_place f.resource_place x in
         let j : e.scope_place ≡ f.scope_place = eqb-true e.scope_place f.scope_place y in
-        ap (λ h. listed_under h e.scope o) (same-resource i) ∙ ap (λ s. listed_under f.resource s o) (same-scope i j) ∙ here
+        ap (λ h. listed_under h e.scope o) (same-resource rs e f p q.0 i) ∙ ap (λ s. listed_under f.resource s o) (same-scope rs e f p q.0 i j) ∙ here
     by_tests true false here x y =
         let i : e.resource_place ≡ f.resource_place = eqb-true e.resource_place f.resource_place x in
-        after-scope e.resource e.scope f.scope o ∙ ap (λ h. listed_under h (head f.scope) o) (same-resource i)
+        after-scope e.resource e.scope f.scope o ∙ ap (λ h. listed_under h (head f.scope) o) (same-resource rs e f p q.0 i)
         ∙ ap (λ s. listed_under f.resource s o) (scope-head rs f q.0) ∙ here
     by_tests false c here x y =
         after-resource e.resource e.scope f.resource f.scope o ∙ ap (λ h. listed_under h (head f.scope) o) (resource-head rs f q.0)
         ∙ ap (λ s. listed_under f.resource s o) (scope-head rs f q.0) ∙ here
 
 -- a group has the profiles of its flat list
-group-listed : (rs : List Tree) (l : List FlatProfile) → Each (IsAtItsPlace rs) l → map bare (flat (group l ∷ [])) ≡ map bare l
+group-listed : (rs : List Tree) (l : List FlatProfile) → Each (HasHeadsOf rs) l → map bare (flat (group l ∷ [])) ≡ map bare l
 group-listed rs [] q = refl
 group-listed rs (e ∷ l) q =
     let o : Gathered = gathered (ProfileItem e.profile ∷ items_after e l) in
@@ -128,7 +77,7 @@ each_cut P (suc more) limit (e ∷ l) h =
     let both : Each P (take n (e ∷ l) ++ drop n (e ∷ l)) = subst (Each P) (sym (take-append-drop n (e ∷ l))) h in
     (each_left P (take n (e ∷ l)) (drop n (e ∷ l)) both, each_cut P more limit (drop n (e ∷ l)) (each_right P (take n (e ∷ l)) (drop n (e ∷ l)) both))
 
-groups-listed : (rs : List Tree) (c : List (List FlatProfile)) → Each (Each (IsAtItsPlace rs)) c
+groups-listed : (rs : List Tree) (c : List (List FlatProfile)) → Each (Each (HasHeadsOf rs)) c
     → flat_map (λ l. map bare (flat (group l ∷ []))) c ≡ map bare (flat_map (λ l. l) c)
 groups-listed rs [] h = refl
 groups-listed rs (l ∷ c) h =
@@ -145,7 +94,7 @@ parts-each limit ms =
     let l : List FlatProfile = flat ms in
     let c : List (List FlatProfile) = cut (length l) limit l in
     flat_map-map (λ m. map bare (flat (m ∷ []))) group c
-    ∙ groups-listed rs c (each_cut (IsAtItsPlace rs) (length l) limit l (resources-placed rs 0 rs (λ n h. let e : n ≡ 0 + n = omega arith in ap (at rs) e)))
+    ∙ groups-listed rs c (each_cut (HasHeadsOf rs) (length l) limit l (flat-placed ms))
     ∙ ap (map bare) (cut-all (length l) limit l (omega arith))
 
 pub parts-flat : (limit : ℕ) (ms : List (List Tree)) → map bare (flat (parts limit ms)) ≡ map bare (flat ms)

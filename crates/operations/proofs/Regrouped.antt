@@ -1,6 +1,5 @@
 -- Grouping what is flat gives the records as they were, without the empty ones.
-use Rattle.std.proofs.Common.{◌≡◌, ℕ, suc, ◌<◌, ◌≤◌, List, [], ◌∷◌, ◌++◌, map, false, refl, ap, subst, ◌∙◌, arith, append_assoc}
-use Rattle.std.specs.Prelude.{◌==◌}
+use Rattle.std.proofs.Common.{◌≡◌, ℕ, suc, ◌<◌, ◌≤◌, List, [], ◌∷◌, ◌++◌, map, refl, ap, subst, ◌∙◌, arith, append_assoc}
 use Rattle.std.specs.List.{flat_map}
 use Rattle.std.proofs.lemmas.Bool.{eq-eqb, ne_eqb}
 use Rattle.schema.specs.Shape.{Shape, Text, End, One, Value}
@@ -11,21 +10,22 @@ use Rattle.operations.specs.Outlines.{head, holding, Item, ResourceItem, ScopeIt
 use Rattle.operations.specs.Flat.{FlatProfile, flat_profile, flat_scopes, flat_resources, flat, new_heads, items_after, items, Gathered, with_item, gathered, group, if_holding, scopes_with_profiles, without_empty}
 
 -- what was gathered, by its three lists
-abbrev made : List Tree → List Tree → List Tree → Gathered
+abbrev pub made : List Tree → List Tree → List Tree → Gathered
 made ps ss us = record { profiles = ps; scopes = ss; resources = us }
 
 -- ---- the heads between two neighbours
 
-heads-none : (e f : FlatProfile) → e.resource_place ≡ f.resource_place → e.scope_place ≡ f.scope_place → new_heads e f ≡ []
+pub heads-none : (e f : FlatProfile) → e.resource_place ≡ f.resource_place → e.scope_place ≡ f.scope_place → new_heads e f ≡ []
 heads-none e f h k = rw (eq-eqb e.resource_place f.resource_place h, eq-eqb e.scope_place f.scope_place k) refl
 
-heads-scope : (e f : FlatProfile) → e.resource_place ≡ f.resource_place → e.scope_place < f.scope_place → new_heads e f ≡ ScopeItem f.scope ∷ []
-heads-scope e f h k =
-    let n : (e.scope_place == f.scope_place) ≡ false = ne_eqb e.scope_place f.scope_place (λ x. omega arith) in
-    rw (eq-eqb e.resource_place f.resource_place h, n) refl
+pub heads-scope : (e f : FlatProfile) → e.resource_place ≡ f.resource_place → (e.scope_place ≡ f.scope_place → ⊥) → new_heads e f ≡ ScopeItem f.scope ∷ []
+heads-scope e f h k = rw (eq-eqb e.resource_place f.resource_place h, ne_eqb e.scope_place f.scope_place k) refl
 
-heads-both : (e f : FlatProfile) → e.resource_place < f.resource_place → new_heads e f ≡ ResourceItem f.resource ∷ ScopeItem f.scope ∷ []
-heads-both e f h = let n : (e.resource_place == f.resource_place) ≡ false = ne_eqb e.resource_place f.resource_place (λ x. omega arith) in rw n refl
+pub heads-both : (e f : FlatProfile) → (e.resource_place ≡ f.resource_place → ⊥) → new_heads e f ≡ ResourceItem f.resource ∷ ScopeItem f.scope ∷ []
+heads-both e f h = rw (ne_eqb e.resource_place f.resource_place h) refl
+
+less-differs : (a b : ℕ) → a < b → a ≡ b → ⊥
+less-differs a b l e = omega arith
 
 -- ---- records behind a profile
 
@@ -59,7 +59,7 @@ scopes-gathered h i l us c (s ∷ ss) g p j k lt =
     by_profiles (q ∷ ps) here more =
         let f : FlatProfile = flat_profile h (head s) i k q in
         let m : List FlatProfile = flat_scopes h i (suc k) ss ++ l in
-        ap (λ x. gathered (x ++ ProfileItem q ∷ items_after f (map (flat_profile h (head s) i k) ps ++ m))) (heads-scope e f refl lt)
+        ap (λ x. gathered (x ++ ProfileItem q ∷ items_after f (map (flat_profile h (head s) i k) ps ++ m))) (heads-scope e f refl (less-differs j k lt))
         ∙ ap (λ o. with_item (ScopeItem (head s)) (with_item (ProfileItem q) o)) (profiles-gathered h (head s) i k m (scopes_with_profiles ss) us more ps q)
 
 -- ---- records from a new resource record on
@@ -72,7 +72,7 @@ record Begins (i : ℕ) (begin : List FlatProfile → List Item) : Type 0 where
 begins-after : (e : FlatProfile) (i : ℕ) → e.resource_place < i → Begins i (items_after e)
 begins-after e i lt = record {
   none = refl;
-  some = λ f l le. ap (λ x. x ++ ProfileItem f.profile ∷ items_after f l) (heads-both e f (omega arith));
+  some = λ f l le. ap (λ x. x ++ ProfileItem f.profile ∷ items_after f l) (heads-both e f (less-differs e.resource_place f.resource_place (omega arith)));
 }
 
 begins-later : (i : ℕ) (begin : List FlatProfile → List Item) → Begins i begin → Begins (suc i) begin

@@ -25,6 +25,10 @@ cut (suc more) limit [] = []
 cut (suc more) limit (e ∷ l) =
     let n = first_length limit (e ∷ l) in take n (e ∷ l) ∷ cut more limit (drop n (e ∷ l))
 
--- the parts of meanings; no more than there are profiles, since each part has one
+-- the parts of a flat list; no more than there are profiles, since each part has one
+abbrev pub flat_parts : ℕ → List FlatProfile → List (List Tree)
+flat_parts limit l = map group (cut (length l) limit l)
+
+-- the parts of meanings
 abbrev pub parts : ℕ → List (List Tree) → List (List Tree)
-parts limit ms = map group (cut (length (flat ms)) limit (flat ms))
+parts limit ms = flat_parts limit (flat ms)

@@ -1,7 +1,7 @@
 -- The profiles of meanings as a flat list, and the records that such a list makes.
-use Rattle.std.specs.Prelude.{ℕ, suc, List, [], ◌∷◌, ◌++◌, map, ◌==◌, if◌then◌else◌}
+use Rattle.std.specs.Prelude.{◌≡◌, ℕ, suc, ◌+◌, List, [], ◌∷◌, ◌++◌, map, get_or, ◌==◌, if◌then◌else◌}
 use Rattle.std.specs.List.{flat_map}
-use Rattle.meaning.specs.Tree.{Tree}
+use Rattle.meaning.specs.Tree.{Tree, Nil}
 use Rattle.parts.specs.Records.{held}
 use Rattle.operations.specs.Outlines.{head, holding, Item, ResourceItem, ScopeItem, ProfileItem}
 
@@ -34,6 +34,19 @@ flat ms = flat_resources 0 (flat_map (λ m. m) ms)
 -- a profile and its heads, without places
 abbrev pub bare : FlatProfile → Tree × (Tree × Tree)
 bare e = (e.resource, (e.scope, e.profile))
+
+-- the same profile with the place of its resource record raised by a number
+abbrev pub later : ℕ → FlatProfile → FlatProfile
+later n e = flat_profile e.resource e.scope (n + e.resource_place) e.scope_place e.profile
+
+-- the record with this number among these
+abbrev pub record_at : List Tree → ℕ → Tree
+record_at rs n = get_or rs n Nil
+
+-- A flat profile has the heads of the records at its places, among these resource records.
+pub record HasHeadsOf (rs : List Tree) (e : FlatProfile) : Type 0 where
+  pub resource_head : e.resource ≡ head (record_at rs e.resource_place)
+  pub scope_head : e.scope ≡ head (record_at (held (record_at rs e.resource_place)) e.scope_place)
 
 -- ---- and back
 

@@ -19,8 +19,8 @@ ghost use Rattle.parts.specs.LastHeads.{last_heads, repeated_parts, repeated_hea
 ghost use Rattle.parts.specs.Records.{holder, record_parts, held, front, back};
 ghost use Rattle.operations.specs.Outlines.{Item, head, holding, outline, item_part};
 ghost use Rattle.operations.specs.Seams.{seam, join, under_last, repeated_heads, repeated_resource, same_head, joined_scope, joined_resource, joined_under};
-ghost use Rattle.operations.specs.Flat.{FlatProfile, flat, bare, group, record_of, without_empty};
-ghost use Rattle.operations.specs.Cuts.{size_of, first_length, cut, parts};
+ghost use Rattle.operations.specs.Flat.{FlatProfile, flat, bare, later, HasHeadsOf, group, record_of, without_empty};
+ghost use Rattle.operations.specs.Cuts.{size_of, first_length, cut, flat_parts, parts};
 ghost use Rattle.operations.specs.Heads.{HeadFits, HeadsFit};
 
 /// The parts of a meaning's records with new indexes are those of its outline, item by item.
@@ -103,6 +103,39 @@ pub fn grouping_gives_back_records()
     ensures single { (e : FlatProfile) → group (e ∷ []) ≡ record_of e ∷ [] }
 {}
 
+/// The flat list of several meanings begins with that of the first; what follows is that of the others, with the place of each
+/// resource record raised by the number of those of the first (`first`). So it is with some meanings and others after them (`append`).
+pub fn flat_lists_are_appended()
+    ensures first { (m : List Tree) → (ms : List (List Tree)) → flat (m ∷ ms) ≡ flat (m ∷ []) ++ map (later (length m)) (flat ms) }
+    ensures append { (ms : List (List Tree)) → (ns : List (List Tree)) → flat (ms ++ ns) ≡ flat ms ++ map (later (length (flat_map (λ m. m) ms))) (flat ns) }
+{}
+
+/// The profiles of meanings have the heads of the records at their places (`placed`). So profiles with equal places have equal heads
+/// (`resources`, `scopes`), and these hold nothing (`heads`).
+pub fn places_tell_heads()
+    ensures placed { (ms : List (List Tree)) → Each (HasHeadsOf (flat_map (λ m. m) ms)) (flat ms) }
+    ensures resources { (rs : List Tree) → (e : FlatProfile) → (f : FlatProfile) → HasHeadsOf rs e → HasHeadsOf rs f
+        → e.resource_place ≡ f.resource_place → e.resource ≡ f.resource }
+    ensures scopes { (rs : List Tree) → (e : FlatProfile) → (f : FlatProfile) → HasHeadsOf rs e → HasHeadsOf rs f
+        → e.resource_place ≡ f.resource_place → e.scope_place ≡ f.scope_place → e.scope ≡ f.scope }
+    ensures heads { (rs : List Tree) → (e : FlatProfile) → HasHeadsOf rs e → (head e.resource ≡ e.resource) × (head e.scope ≡ e.scope) }
+{}
+
+/// One profile more at the end of a flat list: after a profile of another resource record it makes a resource record of its own
+/// (`elsewhere`), after one of another scope record of its resource record a scope record under the last resource record (`scope`),
+/// and after one of its own scope record it goes into that one (`profile`). For the last two the profiles must have the heads of the
+/// records at their places, as those of meanings have (`places_tell_heads`).
+pub fn grouping_goes_on()
+    ensures elsewhere { (l : List FlatProfile) → (e : FlatProfile) → (f : FlatProfile) → (e.resource_place ≡ f.resource_place → ⊥)
+        → group (l ++ e ∷ f ∷ []) ≡ group (l ++ e ∷ []) ++ record_of f ∷ [] }
+    ensures scope { (rs : List Tree) → (l : List FlatProfile) → (e : FlatProfile) → (f : FlatProfile) → Each (HasHeadsOf rs) (l ++ e ∷ f ∷ [])
+        → e.resource_place ≡ f.resource_place → (e.scope_place ≡ f.scope_place → ⊥)
+        → group (l ++ e ∷ f ∷ []) ≡ under_last (group (l ++ e ∷ [])) (record_of f ∷ []) }
+    ensures profile { (rs : List Tree) → (l : List FlatProfile) → (e : FlatProfile) → (f : FlatProfile) → Each (HasHeadsOf rs) (l ++ e ∷ f ∷ [])
+        → e.resource_place ≡ f.resource_place → e.scope_place ≡ f.scope_place
+        → group (l ++ e ∷ f ∷ []) ≡ seam (group (l ++ e ∷ [])) (record_of f ∷ []) }
+{}
+
 /// The canonical bytes of a seam are at least as many as those of its first meaning (`seam`), and so it is where scope records come
 /// under the last resource record (`under`). Those of joined meanings are at least as many as with only the first of them joined
 /// (`join`), and those of a flat list at least as many as those of a prefix (`prefix`).
@@ -125,6 +158,16 @@ pub fn parts_are_longest()
         (cut (length (e ∷ l)) limit (e ∷ l) ≡ take n (e ∷ l) ∷ cut (length (drop n (e ∷ l))) limit (drop n (e ∷ l))) }
     ensures fit { (limit : ℕ) → (l : List FlatProfile) → Each (λ p. (size_of p ≤ limit) ⊎ (length p ≡ 1)) (cut (length l) limit l) }
     ensures all { (limit : ℕ) → (l : List FlatProfile) → flat_map (λ p. p) (cut (length l) limit l) ≡ l }
+{}
+
+/// The parts of a flat list come one after the other: none of the empty list (`none`); else the first, and then those of what is left
+/// (`next`). The first has at least one profile and no more than there are (`between`). It fits, or is one profile (`size`).
+pub fn parts_come_one_by_one()
+    ensures none { (limit : ℕ) → let nothing : List (List Tree) = [] in (flat_parts limit [] ≡ nothing) }
+    ensures next { (limit : ℕ) → (l : List FlatProfile) → 0 < length l → let n = first_length limit l in
+        (flat_parts limit l ≡ group (take n l) ∷ flat_parts limit (drop n l)) }
+    ensures between { (limit : ℕ) → (l : List FlatProfile) → 0 < length l → (0 < first_length limit l) × (first_length limit l ≤ length l) }
+    ensures size { (limit : ℕ) → (l : List FlatProfile) → let n = first_length limit l in ((size_of (take n l) ≤ limit) ⊎ (n ≡ 1)) }
 {}
 
 /// What is written after a draft's records makes a draft of the seam: its parts are those that it had, and the new ones without the

@@ -8,3 +8,4 @@ pub mod Moves
 pub mod MemoSteps
 pub mod Memos
 pub mod Texts
+pub mod Marks

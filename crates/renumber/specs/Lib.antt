@@ -1,3 +1,4 @@
 pub mod Entries
 pub mod Memos
 pub mod Walk
+pub mod Marks

@@ -15,8 +15,10 @@ ghost use Rattle.meaning.specs.Tree.{tree};
 ghost use Rattle.dict_rec.specs.declared.dictionary.Dictionary.{Dictionary};
 ghost use Rattle.key_tables.specs.Keys.{Keys, at};
 ghost use Rattle.renumber.specs.Entries.{IsKey, IsPart, IsSource, new_entries, old_entries};
+ghost use Rattle.renumber.specs.Marks.{CanBeWalkedBack, IsWalkMark, WalkGoesOn, walked_back};
 ghost use Rattle.renumber.specs.Memos.{IsMemoMark, MemoGoesOn, MemoState, memo_back};
-ghost use Rattle.renumber.specs.Walk.{IsReady, MemoLists, State, WalkedEach};
+ghost use Rattle.renumber.specs.Walk.{IsReady, MemoLists, Moves, State, WalkedEach};
+ghost use Rattle.renumber.specs.declared.walk_mark.WalkMark.{WalkMark};
 
 /// Deduplicated tables are ready for a message of whose entries none was met.
 pub fn nothing_met_is_ready()
@@ -48,4 +50,18 @@ pub fn memos_lead_back()
 pub fn memos_go_on()
     ensures same { (m : MemoState) → MemoGoesOn m m }
     ensures over { (a : MemoState) → (b : MemoState) → (c : MemoState) → MemoGoesOn a b → MemoGoesOn b c → MemoGoesOn a c }
+{}
+
+/// A walk that goes on from the state of a mark can be cut back to it, and has this state again. The state need not have been one
+/// of this walk: a mark of tables and `MemoMark::none` are a mark of these tables with a memo of nothing.
+pub fn walks_lead_back()
+    ensures { (m : WalkMark) → (a : State) → (b : State) → IsWalkMark m a → WalkGoesOn a b → CanBeWalkedBack m b × (walked_back m b ≡ a) }
+{}
+
+/// Walks go on from themselves (`same`), from those that the ones in between go on from (`over`), and from where they began after
+/// each call that walks (`moves`).
+pub fn walks_go_on()
+    ensures same { (w : State) → WalkGoesOn w w }
+    ensures over { (a : State) → (b : State) → (c : State) → WalkGoesOn a b → WalkGoesOn b c → WalkGoesOn a c }
+    ensures moves { (s : Shape) → (extra : ℕ) → (a : State) → (b : State) → (n : ℕ) → (m : ℕ) → Moves s extra a b n m → WalkGoesOn a b }
 {}

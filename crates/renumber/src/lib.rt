@@ -10,8 +10,10 @@ mod records;
 mod rows;
 mod spot;
 mod walk;
+mod walk_mark;
 
 pub use mark::MemoMark;
 pub use meets::{Entry, Meets};
 pub use memo::Memo;
 pub use walk::Walk;
+pub use walk_mark::WalkMark;

@@ -1,4 +1,6 @@
 //! Marks of memos.
+ghost use Rattle.std.specs.Prelude.{◌≡◌};
+
 use std::marker::Model;
 
 /// How much a memo had noted, seen as that number.
@@ -15,4 +17,13 @@ impl Model for MemoMark {
     ghost view = { λ m. m.count };
 
     ghost inverse = { λ n. record { count = n } };
+}
+
+impl MemoMark {
+    /// The mark of a memo in which nothing was noted. It takes no memory.
+    pub fn none() -> MemoMark
+        ensures { result ≡ 0 }
+    {
+        MemoMark { count: 0 }
+    }
 }

@@ -10,11 +10,13 @@ ghost use Rattle.meaning.specs.Tree.{Integer, tree};
 ghost use Rattle.pb_wire.specs.TableKinds.{table_of};
 ghost use Rattle.key_tables.specs.Keys.{at};
 ghost use Rattle.renumber.specs.Entries.{IsKeyOf, IsPart, IsSource, index_into, old_entries};
+ghost use Rattle.renumber.specs.Marks.{CanBeWalkedBack, IsWalkMark, walked_back};
 ghost use Rattle.renumber.specs.Walk.{IsOpen, IsReady, IsUnmet, Moves, Walked, memo_of, missed};
 
 use crate::meets::{Entry, Meets};
 use crate::memo::Memo;
 use crate::spot::Spot;
+use crate::walk_mark::WalkMark;
 use dict_rec::Dictionary;
 use key_tables::KeyTables;
 use pb_wire::{Blob, NewIndexes, NoMemory, Rows, TableKind};
@@ -119,6 +121,39 @@ impl<'w, 'a, S: BuildHasher + Drop> Walk<'w, 'a, S> {
         // A field of its own opens the invariant here.
         let _source = self.source;
         &self.tables
+    }
+
+    /// A mark of the walk as it is, for `back_to`. It takes no memory.
+    pub fn mark(&self) -> WalkMark
+        ensures { IsWalkMark result self.now }
+    {
+        WalkMark {
+            keys: self.tables.mark(),
+            memo: self.memo.mark(),
+        }
+    }
+
+    /// Drops the keys that came after the mark, and forgets what was noted after it. It takes no memory, and time for what was
+    /// added since.
+    pub fn back_to(&mut self, mark: WalkMark)
+        requires { CanBeWalkedBack mark self.old }
+        ensures { self.new ≡ walked_back mark self.old }
+    {
+        self.tables.back_to(mark.keys);
+        self.memo.back_to(mark.memo);
+    }
+
+    /// Goes on with another message's dictionary and a memo of it; the tables stay. It takes no memory.
+    pub fn turn_to(&mut self, source: &'w Dictionary<'a>, memo: Memo)
+        requires source { IsSource source.now }
+        requires ready { IsReady source.now self.old.keys memo.lists }
+        ensures source { self.new.source ≡ source.now }
+        ensures keys { self.new.keys ≡ self.old.keys }
+        ensures memo { self.new.memo ≡ memo.lists }
+        ensures noted { self.new.noted ≡ memo.noted }
+    {
+        self.source = source;
+        self.memo = memo;
     }
 
     // The dictionary of the message.

@@ -7,11 +7,11 @@ use Rattle.schema.specs.Messages.{resource_profiles, envelope}
 use Rattle.meaning.specs.Message.{meaning_text}
 use Rattle.otlp_msg.specs.Message.{Message, message_of, message_limit}
 use Rattle.otlp_msg.specs.declared.refusal.Refusal.{Refusal}
-use Rattle.dict_build.specs.declared.fault.BuildFault.{BuildFault}
-use Rattle.dict_build.specs.declared.fault.BuildFault.TheVariants.{OutputLimit, NoMemory}
-use Rattle.dict_build.specs.Draft.{IsFaultOf}
-use Rattle.dict_build.specs.Meanings.{size_of}
-use Rattle.dict_build.proofs.Acceptance.{apart, meaning_accepted, message_written}
+use Rattle.draft_contents.specs.declared.fault.BuildFault.{BuildFault}
+use Rattle.draft_contents.specs.declared.fault.BuildFault.TheVariants.{OutputLimit, NoMemory}
+use Rattle.draft_contents.specs.Draft.{IsFaultOf}
+use Rattle.draft_contents.specs.Meanings.{size_of}
+use Rattle.draft_contents.proofs.Acceptance.{apart, meaning_accepted, message_written}
 use Rattle.split_merge.specs.Canonical.{Meaning, meaning, canonical_bytes, canon_of, within_limit, CanBeWritten, IsAcceptedAs, IsBuildFault, IsOnlyOf}
 
 -- the canonical bytes of a meaning that can be written are those of this meaning alone, and are accepted with it
@@ -81,7 +81,7 @@ unfolding canonical_bytes
 only_answer ms b w e ns x q = apart ns ms x w (q ∙ e)
 
 -- and its fault, where there are too many
-pub refused_as : (m : Message) (fault : BuildFault) → IsFaultOf (meaning m) fault → IsBuildFault (canon_of m) fault
+pub refused_as : (m : Message) (fault : BuildFault) → IsFaultOf message_limit (meaning m) fault → IsBuildFault (canon_of m) fault
 unfolding canonical_bytes
 refused_as m (OutputLimit size) l =
     ap (λ (t : Bool). let r : Result (List ℕ) BuildFault = cond t (Err (OutputLimit (size_of (meaning m)))) (Ok (meaning_text resource_profiles (meaning m))) in r)

@@ -8,10 +8,10 @@ use Rattle.operations.specs.Flat.{flat, bare}
 use Rattle.operations.specs.Seams.{join_onto}
 use Rattle.operations.proofs.Bare.{flat-join}
 use Rattle.operations.proofs.Growing.{seam-longer}
-use Rattle.dict_build.specs.Meanings.{Meaning, joined, meaning, size_of}
-use Rattle.dict_build.specs.declared.fault.BuildFault.{BuildFault}
-use Rattle.dict_build.specs.declared.fault.BuildFault.TheVariants.{OutputLimit}
-use Rattle.dict_build.proofs.Drafts.{none_size}
+use Rattle.draft_contents.specs.Meanings.{Meaning, joined, meaning, size_of}
+use Rattle.draft_contents.specs.declared.fault.BuildFault.{BuildFault}
+use Rattle.draft_contents.specs.declared.fault.BuildFault.TheVariants.{OutputLimit}
+use Rattle.draft_contents.proofs.Drafts.{none_size}
 use Rattle.split_merge.specs.Canonical.{canon_of, canonical_bytes}
 use Rattle.split_merge.specs.Merged.{IsFirstExcess, joined_meaning, joined_onto, merged, merged_onto}
 use Rattle.split_merge.proofs.Merges.{merged-within}
@@ -100,7 +100,7 @@ merged-one m = refl
 
 -- ---- profiles
 
-flat_map-map : {X Y Z : Type 0} (f : Y → List Z) (g : X → Y) (xs : List X) → flat_map f (map g xs) ≡ flat_map (λ x. f (g x)) xs
+pub flat_map-map : {X Y Z : Type 0} (f : Y → List Z) (g : X → Y) (xs : List X) → flat_map f (map g xs) ≡ flat_map (λ x. f (g x)) xs
 flat_map-map f g [] = refl
 flat_map-map f g (x ∷ xs) = ap (λ l. f (g x) ++ l) (flat_map-map f g xs)
 

@@ -5,11 +5,11 @@ use Rattle.std.proofs.lemmas.List.{append-nil, map-append, take_all, take_more}
 use Rattle.meaning.specs.Message.{meaning_text}
 use Rattle.schema.specs.Messages.{resource_profiles}
 use Rattle.otlp_msg.specs.Message.{Message, message_limit}
-use Rattle.dict_build.specs.Contents.{Contents}
-use Rattle.dict_build.specs.Draft.{IsFaultOf, StandsFor}
-use Rattle.dict_build.specs.Meanings.{Meaning, joined, size_of}
-use Rattle.dict_build.specs.declared.fault.BuildFault.{BuildFault}
-use Rattle.dict_build.specs.declared.fault.BuildFault.TheVariants.{OutputLimit}
+use Rattle.draft_contents.specs.Contents.{Contents}
+use Rattle.draft_contents.specs.Draft.{IsFaultOf, StandsFor}
+use Rattle.draft_contents.specs.Meanings.{Meaning, joined, size_of}
+use Rattle.draft_contents.specs.declared.fault.BuildFault.{BuildFault}
+use Rattle.draft_contents.specs.declared.fault.BuildFault.TheVariants.{OutputLimit}
 use Rattle.split_merge.specs.Canonical.{IsBuildFault, IsOnlyOf, canonical_bytes}
 use Rattle.split_merge.specs.Merged.{IsMerge, IsMergeOf, Merge, joined_meaning, joined_onto, merged, merged_onto}
 use Rattle.split_merge.proofs.Bytes.{only_answer}
@@ -45,7 +45,7 @@ one_more c d m s messages g =
     )
 
 -- one to which no more can be joined
-pub too_many : (c d : Contents) (m : Message) (size : ℕ) → ((ms : Meaning) → StandsFor c ms → IsFaultOf (joined ms m) (OutputLimit size))
+pub too_many : (c d : Contents) (m : Message) (size : ℕ) → ((ms : Meaning) → StandsFor c ms → IsFaultOf message_limit (joined ms m) (OutputLimit size))
     → (messages : List Message) → IsMergeOf c None messages → IsMergeOf d (Some size) (messages ++ m ∷ [])
 too_many c d m size f messages g more =
     let l = f (joined_meaning messages) g.0 in

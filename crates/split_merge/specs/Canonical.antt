@@ -3,9 +3,9 @@ use Rattle.std.specs.Prelude.{◌≡◌, ℕ, List, length, if◌then◌else◌,
 use Rattle.schema.specs.Messages.{resource_profiles}
 use Rattle.meaning.specs.Message.{meaning_text}
 use Rattle.otlp_msg.specs.Message.{Message, message_limit}
-pub use Rattle.dict_build.specs.Meanings.{Meaning, CanBeWritten, IsAcceptedAs, meaning}
-use Rattle.dict_build.specs.declared.fault.BuildFault.{BuildFault}
-use Rattle.dict_build.specs.declared.fault.BuildFault.TheVariants.{OutputLimit, NoMemory}
+pub use Rattle.draft_contents.specs.Meanings.{Meaning, CanBeWritten, IsAcceptedAs, meaning}
+use Rattle.draft_contents.specs.declared.fault.BuildFault.{BuildFault}
+use Rattle.draft_contents.specs.declared.fault.BuildFault.TheVariants.{OutputLimit, NoMemory}
 
 -- the canonical bytes of a meaning
 unfoldable pub canonical_bytes : Meaning → List ℕ

@@ -1,11 +1,11 @@
 -- Several messages as one.
 use Rattle.std.specs.Prelude.{◌≡◌, ℕ, ◌<◌, ◌≤◌, List, [], ◌∷◌, ◌++◌, length, take, if◌then◌else◌, nat_lt, Option, Some, None, Result, Ok, Err}
 use Rattle.otlp_msg.specs.Message.{Message, message_limit}
-use Rattle.dict_build.specs.Contents.{Contents}
-use Rattle.dict_build.specs.Draft.{StandsFor}
-use Rattle.dict_build.specs.Meanings.{Meaning, joined, size_of}
-use Rattle.dict_build.specs.declared.fault.BuildFault.{BuildFault}
-use Rattle.dict_build.specs.declared.fault.BuildFault.TheVariants.{OutputLimit}
+use Rattle.draft_contents.specs.Contents.{Contents}
+use Rattle.draft_contents.specs.Draft.{StandsFor}
+use Rattle.draft_contents.specs.Meanings.{Meaning, joined, size_of}
+use Rattle.draft_contents.specs.declared.fault.BuildFault.{BuildFault}
+use Rattle.draft_contents.specs.declared.fault.BuildFault.TheVariants.{OutputLimit}
 use Rattle.split_merge.specs.Canonical.{canonical_bytes}
 
 -- a meaning with messages joined to it, one after the other

@@ -1,15 +1,17 @@
-//! Laws of canonical bytes.
+//! Laws of canonical bytes, of messages as one, and of parts.
 ghost use Rattle.std.specs.Prelude.{◌≡◌, ◌<◌, ◌≤◌, ℕ, List, [], ◌∷◌, length, map, All, Ok, Err};
 ghost use Rattle.std.specs.List.{flat_map};
+ghost use Rattle.schema.specs.Each.{Each};
 ghost use Rattle.schema.specs.Fits.{Fits};
 ghost use Rattle.schema.specs.Messages.{envelope};
 ghost use Rattle.otlp_msg.specs.Message.{Message, message_limit, message_of};
 ghost use Rattle.operations.specs.Flat.{flat, bare};
 ghost use Rattle.operations.specs.Seams.{join};
-ghost use Rattle.dict_build.specs.declared.fault.BuildFault.TheVariants.{OutputLimit};
-ghost use Rattle.dict_build.specs.Meanings.{size_of};
+ghost use Rattle.draft_contents.specs.declared.fault.BuildFault.TheVariants.{OutputLimit};
+ghost use Rattle.draft_contents.specs.Meanings.{size_of};
 ghost use Rattle.split_merge.specs.Canonical.{Meaning, meaning, canonical_bytes, canon_of, CanBeWritten, IsAcceptedAs, IsOnlyOf};
 ghost use Rattle.split_merge.specs.Merged.{IsFirstExcess, joined_meaning, merged};
+ghost use Rattle.split_merge.specs.Splits.{FitsOrIsOne, GivesParts, split_parts, splitting_of};
 
 /// The canonical bytes of a meaning that can be written are accepted with this meaning (`meanings`). So are those of a message
 /// that can be written, as each accepted message can, where they are not too many (`messages`), and they are their own
@@ -46,4 +48,21 @@ pub fn merged_messages_are_joined()
 /// The profiles of messages as one are those of each, in order, with the heads of their records.
 pub fn merged_messages_keep_their_profiles()
     ensures { (messages : List Message) → map bare (flat (joined_meaning messages ∷ [])) ≡ flat_map (λ m. map bare (flat (meaning m ∷ []))) messages }
+{}
+
+/// The profiles of the parts that messages are cut into are those of each message, in order, with the heads of their records.
+pub fn split_messages_keep_their_profiles()
+    ensures { (limit : ℕ) → (messages : List Message) → map bare (flat (split_parts limit messages)) ≡ flat_map (λ m. map bare (flat (meaning m ∷ []))) messages }
+{}
+
+/// Each part has at most `limit` bytes, or is one profile.
+pub fn split_parts_fit()
+    ensures { (limit : ℕ) → (messages : List Message) → Each (FitsOrIsOne limit) (split_parts limit messages) }
+{}
+
+/// What is given one by one, the next part and then those of what is left after it, is the parts of the messages (`parts`) and nothing
+/// else (`only`).
+pub fn parts_are_given_one_by_one()
+    ensures parts { (limit : ℕ) → (messages : List Message) → GivesParts (splitting_of limit messages) (split_parts limit messages) }
+    ensures only { (limit : ℕ) → (messages : List Message) → (given : List Meaning) → GivesParts (splitting_of limit messages) given → given ≡ split_parts limit messages }
 {}

@@ -12,7 +12,8 @@ use std::marker::Model;
 use std::sync::ledger::Ledger;
 
 /// A table of keys that are bytes, which finds a key by its hash, seen as the list of its keys. The bytes of all keys are in one
-/// run, and a key takes 16 to 32 bytes more.
+/// run. Beside them a key takes a row of 8 bytes, and 8 to 16 bytes of the buckets and links through which keys are found; the first
+/// key makes 8 buckets.
 #[derive(Drop)]
 pub struct BytesTable<S: BuildHasher> {
     hasher: S,

@@ -10,7 +10,8 @@ use crate::linking::{bucket_of, link, link_all, unlink};
 use pb_wire::NoMemory;
 use std::alloc::Global;
 
-// The fewest buckets of keys that there are.
+// The fewest buckets of keys that there are. Their number is doubled as often as need be, so it is a power of two, and its mask takes
+// the bucket from a hash. Chains are right with any number; only with such a one are all buckets used.
 const FEWEST_BUCKETS: usize = 8;
 
 // The most bytes of a run, whose ends have 32 bits.

@@ -1,4 +1,4 @@
-use Rattle.dict_build.proofs.Marks.{can_go_back}
+use Rattle.draft_contents.proofs.Marks.{can_go_back}
 use Rattle.call_tests.proofs.drafts.add_and_go_back.Goals as goal
 
 pub back_to-requires : goal.back_to-requires

@@ -1,7 +1,7 @@
 use Rattle.std.proofs.Common.{◌∙◌, subst}
-use Rattle.dict_build.specs.Contents.{Contents}
-use Rattle.dict_build.specs.Marks.{GoesOn}
-use Rattle.dict_build.proofs.Marks.{can_go_back, goes_over, marked_back}
+use Rattle.draft_contents.specs.Contents.{Contents}
+use Rattle.draft_contents.specs.Marks.{GoesOn}
+use Rattle.draft_contents.proofs.Marks.{can_go_back, goes_over, marked_back}
 use Rattle.call_tests.proofs.drafts.add_below_older_mark.Goals as goal
 
 pub back_to-requires : goal.back_to-requires

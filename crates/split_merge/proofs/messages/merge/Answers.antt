@@ -1,7 +1,7 @@
 use Rattle.std.proofs.Common.{◌≡◌, ℕ, List, Ok, Result, map, sym, subst, take}
 use Rattle.otlp_msg.specs.Checked.{value_of}
 use Rattle.otlp_msg.specs.Message.{Message}
-use Rattle.dict_build.specs.declared.fault.BuildFault.{BuildFault}
+use Rattle.draft_contents.specs.declared.fault.BuildFault.{BuildFault}
 use Rattle.split_merge.specs.Canonical.{IsAcceptedAs, IsBuildFault, IsOnlyOf}
 use Rattle.split_merge.specs.Merged.{IsMerge, joined_meaning, merged}
 use Rattle.split_merge.proofs.Merges.{all_joined, of_these_err, of_these_ok, values-more}

@@ -1,9 +1,10 @@
 use Rattle.std.proofs.Common.{subst, IfErr, OnOk}
 use Rattle.otlp_msg.specs.Checked.{value_of}
 use Rattle.otlp_msg.specs.Message.{Message}
-use Rattle.dict_build.specs.Contents.{contents}
-use Rattle.dict_build.specs.Draft.{IsFaultOfJoined, StandsForJoined}
-use Rattle.dict_build.proofs.Drafts.{found_fits, found_message, found_source, still_stands}
+use Rattle.draft_contents.specs.Contents.{contents}
+use Rattle.draft_contents.specs.Draft.{IsFaultOfJoined, StandsForJoined}
+use Rattle.draft_contents.specs.declared.incoming.Joining.TheVariants.{Seam}
+use Rattle.draft_contents.proofs.Drafts.{found_fits, found_message, found_source, still_stands}
 use Rattle.dict_build.proofs.draft.Draft.add_message.Goals as goal
 
 pub add_within_limit-requires-clause-source : goal.add_within_limit-requires-clause-source
@@ -39,7 +40,7 @@ returns-clause-fault g c =
 
 pub invariant_of-self : goal.invariant_of-self
 invariant_of-self g c =
-    still_stands c.add_within_limit.result (contents c.self.inside.tables c.self.inside.records) (contents c.add_within_limit.new.tables c.add_within_limit.new.records)
+    still_stands c.add_within_limit.result Seam (contents c.self.inside.tables c.self.inside.records) (contents c.add_within_limit.new.tables c.add_within_limit.new.records)
     (value_of c.args.message.now) c.self.invariant (subst
     (λ (m : Message). OnOk c.add_within_limit.result
     (StandsForJoined (contents c.self.inside.tables c.self.inside.records) (contents c.add_within_limit.new.tables c.add_within_limit.new.records) m))

@@ -1,7 +1,7 @@
 use Rattle.std.proofs.Common.{subst, sym}
-use Rattle.dict_build.specs.Contents.{Contents}
-use Rattle.dict_build.specs.Draft.{StandsForSome}
-use Rattle.dict_build.specs.Marks.{cut_to}
+use Rattle.draft_contents.specs.Contents.{Contents}
+use Rattle.draft_contents.specs.Draft.{StandsForSome}
+use Rattle.draft_contents.specs.Marks.{cut_to}
 use Rattle.dict_build.proofs.draft.Draft.back_to.Goals as goal
 
 pub invariant_of-self : goal.invariant_of-self

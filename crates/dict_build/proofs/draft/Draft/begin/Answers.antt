@@ -1,5 +1,5 @@
 use Rattle.std.proofs.Common.{[]}
-use Rattle.dict_build.proofs.Drafts.{begun_stands}
+use Rattle.draft_contents.proofs.Drafts.{begun_stands}
 use Rattle.dict_build.proofs.draft.Draft.begin.Goals as goal
 
 pub invariant_of-result : goal.invariant_of-result

@@ -1,6 +1,6 @@
 use Rattle.std.proofs.Common.{[], ◌∙◌, arith}
-use Rattle.dict_build.specs.Contents.{Contents, contents}
-use Rattle.dict_build.proofs.Drafts.{len_is, none_size}
+use Rattle.draft_contents.specs.Contents.{Contents, contents}
+use Rattle.draft_contents.proofs.Drafts.{len_is, none_size}
 use Rattle.dict_build.proofs.draft.Draft.size.Goals as goal
 
 pub whole_len-requires : goal.whole_len-requires

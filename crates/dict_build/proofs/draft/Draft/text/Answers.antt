@@ -1,8 +1,8 @@
 use Rattle.std.proofs.Common.{◌∙◌, sym, subst}
-use Rattle.dict_build.specs.Contents.{contents}
-use Rattle.dict_build.specs.Meanings.{IsAcceptedAs}
-use Rattle.dict_build.proofs.Drafts.{whole_accepted}
-use Rattle.dict_build.proofs.DraftContents.{whole_is}
+use Rattle.draft_contents.specs.Contents.{contents}
+use Rattle.draft_contents.specs.Meanings.{IsAcceptedAs}
+use Rattle.draft_contents.proofs.Drafts.{whole_accepted}
+use Rattle.draft_contents.proofs.DraftContents.{whole_is}
 use Rattle.dict_build.proofs.draft.Draft.text.Goals as goal
 
 pub copied_bytes-requires : goal.copied_bytes-requires

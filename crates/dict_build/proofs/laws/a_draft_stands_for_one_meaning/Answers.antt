@@ -1,5 +1,0 @@
-use Rattle.dict_build.proofs.Drafts.{stands_for_one}
-use Rattle.dict_build.proofs.laws.a_draft_stands_for_one_meaning.Goals as goal
-
-pub returns : goal.returns
-returns c = stands_for_one

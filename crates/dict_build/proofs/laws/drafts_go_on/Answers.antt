@@ -1,5 +1,0 @@
-use Rattle.dict_build.proofs.Marks.{goes_itself, goes_over}
-use Rattle.dict_build.proofs.laws.drafts_go_on.Goals as goal
-
-pub returns : goal.returns
-returns c = record { same = goes_itself; over = goes_over }

@@ -1,5 +1,0 @@
-use Rattle.dict_build.proofs.Marks.{can_go_back, marked_back}
-use Rattle.dict_build.proofs.laws.marks_lead_back.Goals as goal
-
-pub returns : goal.returns
-returns c = λ m a b i g. (can_go_back m a b i g, marked_back m a b i g)

@@ -1,0 +1,15 @@
+pub mod Results
+pub mod Dictionaries
+pub mod DraftContents
+pub mod Additions
+pub mod LeftOut
+pub mod Acceptance
+pub mod Alone
+pub mod Positions
+pub mod FlatPositions
+pub mod Drafts
+pub mod Joins
+pub mod Repeats
+pub mod Lengths
+pub mod Rows
+pub mod Marks
