@@ -21,12 +21,12 @@ computed_to F old new names want next holds a (Err stop) first rest = computed_a
 
 -- ---- the messages in the files so far, where a map is told that the files before left as it was
 
-told_more : (told now : Option FileMap) (names : Names) (i : ℕ) (name : List ℕ) (messages : List Message) (message : Message) → i < length names → name ≡ get_or names i name → now ≡ told
-    → IfSome told (λ m. each (message_at m) (take i names) ≡ Ok messages) → IfSome now (λ m. message_at m name ≡ Ok message)
-    → IfSome told (λ m. each (message_at m) (take (i + 1) names) ≡ Ok (messages ++ message ∷ []))
-told_more None now names i name messages message lt is same so_far one = tt
-told_more (Some m) now names i name messages message lt is same so_far one =
-    each_more (message_at m) names i name messages message lt is so_far (subst (λ (o : Option FileMap). IfSome o (λ m. message_at m name ≡ Ok message)) same one)
+pub told_more : {A : Type 0} (f : FileMap → List ℕ → Result A Stop) (told now : Option FileMap) (names : Names) (i : ℕ) (name : List ℕ) (vs : List A) (v : A) → i < length names → name ≡ get_or names i name → now ≡ told
+    → IfSome told (λ m. each (f m) (take i names) ≡ Ok vs) → IfSome now (λ m. f m name ≡ Ok v)
+    → IfSome told (λ m. each (f m) (take (i + 1) names) ≡ Ok (vs ++ v ∷ []))
+told_more f None now names i name vs v lt is same so_far one = tt
+told_more f (Some m) now names i name vs v lt is same so_far one =
+    each_more (f m) names i name vs v lt is so_far (subst (λ (o : Option FileMap). IfSome o (λ m. f m name ≡ Ok v)) same one)
 
 stopped_at : (m : FileMap) (names : Names) (i : ℕ) (name : List ℕ) (messages : List Message) (stop : Stop) → i < length names → name ≡ get_or names i name
     → each (message_at m) (take i names) ≡ Ok messages → IsStop (message_at m name) stop → IsStop (each (message_at m) names) stop
@@ -56,7 +56,7 @@ pub joined_more : {S : Type 0} (F : OfFiles S) (old now new : S) (names : Names)
 joined_more F old now new names i name before held gained messages message lt is so_far joined one gains = (
   messages ++ message ∷ [],
   record {
-    ok = told_more (F.told old) (F.told now) names i name messages message lt is so_far.reads.same so_far.ok one.ok;
+    ok = told_more (λ m. message_at m) (F.told old) (F.told now) names i name messages message lt is so_far.reads.same so_far.ok one.ok;
     stopped = tt;
     reads = read_more F old now new (take i names) (name ∷ []) (take (i + 1) names) messages message (messages ++ message ∷ []) so_far.reads one.reads;
   },

@@ -3,6 +3,9 @@ pub mod Rebuilding
 pub mod Each
 pub mod RunSteps
 pub mod Joining
+pub mod KeepingFiles
+pub mod SplitParts
+pub mod KeptMessages
 pub mod Held
 pub mod Performing
 pub mod CheckLines

@@ -38,19 +38,19 @@ stop_stays : {A B : Type 0} (told : Option FileMap) (want : FileMap → Result A
 stop_stays None want next stop h = tt
 stop_stays (Some m) want next stop h = still_stopped (want m) next stop h
 
-free : (told : Option FileMap) → IfSome told (λ m. Unit {0})
+pub free : (told : Option FileMap) → IfSome told (λ m. Unit {0})
 free None = tt
 free (Some m) = tt
 
 -- ---- a stop of what was read
 
-of_reading : (names : Names) (told : Option FileMap) (failed : List ℕ → Type 0) (stop : Stop) → IsOfInput stop → ReadCause names told failed stop
+pub of_reading : (names : Names) (told : Option FileMap) (failed : List ℕ → Type 0) (stop : Stop) → IsOfInput stop → ReadCause names told failed stop
 of_reading names told failed (Refused refusal) h = h
 of_reading names told failed (Read name) h = absurd h
 of_reading names told failed (Write name) h = h
 of_reading names told failed NoMemory h = tt
 
-no_fault : (stop : Stop) → IsOfInput stop → IsNoFault stop
+pub no_fault : (stop : Stop) → IsOfInput stop → IsNoFault stop
 no_fault (Refused refusal) h = tt
 no_fault (Read name) h = h
 no_fault (Write name) h = h
