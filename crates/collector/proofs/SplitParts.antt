@@ -1,5 +1,5 @@
 -- Parts of messages, given one after the other.
-use Rattle.std.proofs.Common.{◌≡◌, ℕ, suc, ◌+◌, ◌<◌, ◌≤◌, ◌⊎◌, inl, inr, List, [], ◌∷◌, ◌++◌, length, map, drop, refl, sym, ap, ◌∙◌, Option, Some, None, Result, Ok, Err, Bool, true, false, nat_lt, cond, subst, append-nil, append_assoc, arith}
+use Rattle.std.proofs.Common.{◌≡◌, ℕ, zero, suc, ◌+◌, ◌<◌, ◌≤◌, ◌⊎◌, inl, inr, List, [], ◌∷◌, ◌++◌, length, map, drop, refl, sym, ap, ◌∙◌, Option, Some, None, IfSome, Result, Ok, Err, Bool, true, false, nat_lt, cond, subst, append-nil, append_assoc, arith}
 use Rattle.std.specs.List.{zip, AllZip, flat_map, range_with_len}
 use Rattle.std.proofs.lemmas.Grind.{flat_map-append}
 use Rattle.std.proofs.lemmas.List.{length-drop}
@@ -54,7 +54,7 @@ length-files_from prefix a [] = refl
 length-files_from prefix a (x ∷ xs) = ap suc (length-files_from prefix (a + 1) xs)
 
 length-names_from : (prefix : List ℕ) (a count : ℕ) → length (names_from prefix a count) ≡ count
-length-names_from prefix a 0 = refl
+length-names_from prefix a zero = refl
 length-names_from prefix a (suc n) = ap suc (length-names_from prefix (a + 1) n)
 
 -- one file more
@@ -112,9 +112,10 @@ fault_left [] bytes fault e = absurd cc
 fault_left (p ∷ ps) bytes fault e = (omega arith, is_fault (within_limit bytes) fault e)
 
 -- fewer profiles are left
-pub fewer_left : (now new : Splitting) (b : List ℕ) → next_of now ≡ Ok (Some b) → new ≡ after_next now → length new.left < length now.left
-fewer_left now new b e gone =
-    let some : 0 < length now.left = (some_left now.left (canonical_bytes (next_part now)) b e).0 in
+pub fewer_left : (now new : Splitting) (b : List ℕ) (part : Option (List ℕ)) → next_of now ≡ Ok part → part ≡ Some b → new ≡ after_next now → length new.left < length now.left
+fewer_left now new b part e is gone =
+    let given : next_of now ≡ Ok (Some b) = e ∙ ap (λ (p : Option (List ℕ)). Ok p) is in
+    let some : 0 < length now.left = (some_left now.left (canonical_bytes (next_part now)) b given).0 in
     let less : length (drop (first_length now.limit now.left) now.left) < length now.left =
     omega (arith, length-drop (first_length now.limit now.left) now.left, (first-between now.limit now.left some).0, some)
     in
@@ -133,16 +134,22 @@ pub record PartsSoFar (limit : ℕ) (prefix : List ℕ) (messages : List Message
   pub is : output ≡ files_written (part_files prefix bytes)
   pub kept : AllZip (IsPart limit) done bytes
 
-pub no_parts : (limit : ℕ) (prefix : List ℕ) (messages : List Message) (now : Splitting) (output : Output) → now ≡ splitting_of limit messages → output ≡ record { files = []; lines = [] }
-    → PartsSoFar limit prefix messages now output
-no_parts limit prefix messages now output begun none = record {
+both_empty : (files : Files) (lines : List ℕ) → files ≡ [] → lines ≡ [] → Path Output (record { files = files; lines = lines }) (record { files = []; lines = [] })
+both_empty files lines no_files no_lines =
+    let first : Path Output (record { files = files; lines = lines }) (record { files = []; lines = lines }) = ap (λ (f : Files). record { files = f; lines = lines }) no_files in
+    let then : Path Output (record { files = []; lines = lines }) (record { files = []; lines = [] }) = ap (λ (l : List ℕ). record { files = []; lines = l }) no_lines in
+    first ∙ then
+
+pub no_parts : (limit limit' : ℕ) (prefix : List ℕ) (messages : List Message) (now : Splitting) (files : Files) (lines : List ℕ) → limit' ≡ limit → now ≡ splitting_of limit' messages
+    → files ≡ [] → lines ≡ [] → PartsSoFar limit prefix messages now (record { files = files; lines = lines })
+no_parts limit limit' prefix messages now files lines same begun no_files no_lines = record {
   done = [];
   rest = split_parts limit messages;
   bytes = [];
   all = refl;
-  left = subst (λ (s : Splitting). GivesParts s (split_parts limit messages)) (sym begun) (gives_parts limit messages);
+  left = subst (λ (s : Splitting). GivesParts s (split_parts limit messages)) (sym (begun ∙ ap (λ (n : ℕ). splitting_of n messages) same)) (gives_parts limit messages);
   made = refl;
-  is = none;
+  is = both_empty files lines no_files no_lines;
   kept = tt;
 }
 
@@ -154,14 +161,14 @@ at_midst P (x ∷ xs) ys y h = at_midst P xs ys y h.1
 push : (R : Meaning → List ℕ → Type 0) (xs : List Meaning) (ys : List (List ℕ)) (x : Meaning) (y : List ℕ) → AllZip R xs ys → R x y → AllZip R (xs ++ x ∷ []) (ys ++ y ∷ [])
 push R [] [] x y h one = (one, tt)
 push R [] (b ∷ bs) x y h one = absurd h
-push R (a ∷ as) [] x y h one = absurd h
-push R (a ∷ as) (b ∷ bs) x y h one = (h.0, push R as bs x y h.1 one)
+push R (a ∷ more) [] x y h one = absurd h
+push R (a ∷ more) (b ∷ bs) x y h one = (h.0, push R more bs x y h.1 one)
 
 same_length : (R : Meaning → List ℕ → Type 0) (xs : List Meaning) (ys : List (List ℕ)) → AllZip R xs ys → length xs ≡ length ys
 same_length R [] [] h = refl
 same_length R [] (b ∷ bs) h = absurd h
-same_length R (a ∷ as) [] h = absurd h
-same_length R (a ∷ as) (b ∷ bs) h = ap suc (same_length R as bs h.1)
+same_length R (a ∷ more) [] h = absurd h
+same_length R (a ∷ more) (b ∷ bs) h = ap suc (same_length R more bs h.1)
 
 -- the next of the parts that are left
 pub record NextOf (now : Splitting) (rest : List Meaning) : Type 0 where
@@ -184,11 +191,13 @@ short_part limit part b e (inl few) = inl (let l : length b ≡ size_of part = a
 short_part limit part b e (inr one) = inr one
 
 -- one part more is given
-pub one_part : (limit : ℕ) (prefix : List ℕ) (messages : List Message) (now new : Splitting) (output output' : Output) (b : List ℕ)
-    → PartsSoFar limit prefix messages now output → next_of now ≡ Ok (Some b) → new ≡ after_next now → IsAcceptedAs b (next_part now) → IsOnlyOf b (next_part now)
+pub one_part : (limit : ℕ) (prefix : List ℕ) (messages : List Message) (now new : Splitting) (output output' : Output) (b : List ℕ) (given : Option (List ℕ))
+    → PartsSoFar limit prefix messages now output → next_of now ≡ Ok given → given ≡ Some b → new ≡ after_next now
+    → IfSome given (λ b. IsAcceptedAs b (next_part now)) → IfSome given (λ b. IsOnlyOf b (next_part now))
     → output' ≡ with_part prefix b output → PartsSoFar limit prefix messages new output'
-one_part limit prefix messages now new output output' b so_far e gone accepted unique more =
-    let some = some_left now.left (canonical_bytes (next_part now)) b e in
+one_part limit prefix messages now new output output' b given so_far e is gone accepted unique more =
+    let given_is : next_of now ≡ Ok (Some b) = e ∙ ap (λ (p : Option (List ℕ)). Ok p) is in
+    let some = some_left now.left (canonical_bytes (next_part now)) b given_is in
     let next : NextOf now so_far.rest = next_given now so_far.rest some.0 so_far.left in
     let part : Meaning = next_part now in
     let all : split_parts limit messages ≡ so_far.done ++ part ∷ next.later = so_far.all ∙ ap (λ (l : List Meaning). so_far.done ++ l) next.is in
@@ -204,7 +213,7 @@ one_part limit prefix messages now new output output' b so_far e gone accepted u
       made = each-append part_bytes so_far.done (part ∷ []) so_far.bytes (b ∷ []) so_far.made one;
       is = more ∙ ap (with_part prefix b) so_far.is ∙ output_more prefix so_far.bytes b;
       kept = push (IsPart limit) so_far.done so_far.bytes part b so_far.kept
-          (record { accepted = accepted; unique = unique; fits = short_part limit part b (within (canonical_bytes part) b some.1) fits });
+          (record { accepted = subst (λ (p : Option (List ℕ)). IfSome p (λ b. IsAcceptedAs b part)) is accepted; unique = subst (λ (p : Option (List ℕ)). IfSome p (λ b. IsOnlyOf b part)) is unique; fits = short_part limit part b (within (canonical_bytes part) b some.1) fits });
     }
 
 -- all parts are given
@@ -214,17 +223,19 @@ all_given limit prefix messages now output so_far e =
     let none : so_far.rest ≡ [] = none_given now so_far.rest (none_left now.left (canonical_bytes (next_part now)) e) so_far.left in
     so_far.all ∙ ap (λ (l : List Meaning). so_far.done ++ l) none ∙ append-nil so_far.done
 
-pub parts_computed : (limit : ℕ) (prefix : List ℕ) (messages : List Message) (now : Splitting) (output : Output) → PartsSoFar limit prefix messages now output
-    → next_of now ≡ Ok None → IsComputed (split_files limit prefix messages) (Ok output)
-parts_computed limit prefix messages now output so_far e = record {
-  ok = rw (all_given limit prefix messages now output so_far e) (rw so_far.made (ap (λ (o : Output). Ok o) (sym so_far.is)));
-  stopped = tt;
-  cause = tt;
-}
+pub parts_computed : (limit : ℕ) (prefix : List ℕ) (messages : List Message) (now : Splitting) (output : Output) (given : Option (List ℕ)) → PartsSoFar limit prefix messages now output
+    → next_of now ≡ Ok given → given ≡ None → IsComputed (split_files limit prefix messages) (Ok output)
+parts_computed limit prefix messages now output given so_far e none =
+    let e' : next_of now ≡ Ok None = e ∙ ap (λ (p : Option (List ℕ)). Ok p) none in
+    let ok : split_files limit prefix messages ≡ Ok output =
+    rw (all_given limit prefix messages now output so_far e') (rw so_far.made (ap (λ (o : Output). Ok o) (sym so_far.is)))
+    in
+    record { ok = ok; stopped = tt; cause = tt }
 
-pub parts_kept : (limit : ℕ) (prefix : List ℕ) (messages : List Message) (now : Splitting) (output : Output) → PartsSoFar limit prefix messages now output
-    → next_of now ≡ Ok None → ArePartFiles limit prefix (split_parts limit messages) output.files
-parts_kept limit prefix messages now output so_far e =
+pub parts_kept : (limit : ℕ) (prefix : List ℕ) (messages : List Message) (now : Splitting) (output : Output) (given : Option (List ℕ)) → PartsSoFar limit prefix messages now output
+    → next_of now ≡ Ok given → given ≡ None → ArePartFiles limit prefix (split_parts limit messages) output.files
+parts_kept limit prefix messages now output given so_far e none =
+    let e' : next_of now ≡ Ok None = e ∙ ap (λ (p : Option (List ℕ)). Ok p) none in
     let files : output.files ≡ part_files prefix so_far.bytes = ap (λ (o : Output). o.files) so_far.is in
     let as_many : length so_far.done ≡ length so_far.bytes = same_length (IsPart limit) so_far.done so_far.bytes so_far.kept in
     let names : length (part_names prefix (length so_far.bytes)) ≡ length so_far.bytes = length-names_from prefix 0 (length so_far.bytes) in
@@ -232,7 +243,7 @@ parts_kept limit prefix messages now output so_far e =
       named = firsts-zip (part_names prefix (length so_far.bytes)) so_far.bytes (sym names) ∙ ap (part_names prefix) (sym as_many);
       bytes = subst (AllZip (IsPart limit) so_far.done) (sym (seconds-zip (part_names prefix (length so_far.bytes)) so_far.bytes (sym names))) so_far.kept;
     } in
-    subst (λ (ps : List Meaning). ArePartFiles limit prefix ps output.files) (sym (all_given limit prefix messages now output so_far e))
+    subst (λ (ps : List Meaning). ArePartFiles limit prefix ps output.files) (sym (all_given limit prefix messages now output so_far e'))
     (subst (ArePartFiles limit prefix so_far.done) (sym files) are)
 
 -- the stop at a fault is the one that is wanted
