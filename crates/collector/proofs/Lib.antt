@@ -6,6 +6,7 @@ pub mod Joining
 pub mod KeepingFiles
 pub mod SplitParts
 pub mod KeptMessages
+pub mod SplitPerformed
 pub mod Held
 pub mod Performing
 pub mod CheckLines

@@ -53,7 +53,7 @@ length-files_from : (prefix : List ℕ) (a : ℕ) (bs : List (List ℕ)) → len
 length-files_from prefix a [] = refl
 length-files_from prefix a (x ∷ xs) = ap suc (length-files_from prefix (a + 1) xs)
 
-length-names_from : (prefix : List ℕ) (a count : ℕ) → length (names_from prefix a count) ≡ count
+pub length-names_from : (prefix : List ℕ) (a count : ℕ) → length (names_from prefix a count) ≡ count
 length-names_from prefix a zero = refl
 length-names_from prefix a (suc n) = ap suc (length-names_from prefix (a + 1) n)
 
