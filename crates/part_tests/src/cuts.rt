@@ -18,24 +18,14 @@ const CPU_TWICE: &[u8] =
 const CPU_APART: &[u8] =
     b"\x0a\x0a\x12\x08\x12\x06\x0a\x04\x08\x01\x10\x02\x0a\x0a\x12\x08\x12\x06\x0a\x04\x08\x01\x10\x02\x12\x17\x0a\x00\x12\x00\x1a\x00\x22\x00\x2a\x00\x2a\x03cpu\x2a\x02ns\x32\x00\x3a\x00";
 
-// Two scope records with equal heads and one empty profile each; with the empty dictionary; and one of them.
+// Two scope records with equal heads and one empty profile each; and with the empty dictionary.
 const EQUAL_SCOPES: &[u8] = b"\x0a\x08\x12\x02\x12\x00\x12\x02\x12\x00";
 
 const BOTH_SCOPES: &[u8] =
     b"\x0a\x08\x12\x02\x12\x00\x12\x02\x12\x00\x12\x0e\x0a\x00\x12\x00\x1a\x00\x22\x00\x2a\x00\x32\x00\x3a\x00";
 
-const ONE_SCOPE: &[u8] =
-    b"\x0a\x04\x12\x02\x12\x00\x12\x0e\x0a\x00\x12\x00\x1a\x00\x22\x00\x2a\x00\x32\x00\x3a\x00";
-
 // A resource record without scope records, and one with a scope record that holds no profile.
 const NO_PROFILES: &[u8] = b"\x0a\x00\x0a\x02\x12\x00";
-
-// The three profiles of `SCOPES`, and the first two of them.
-const THREE: &[u8] =
-    b"\x0a\x1c\x12\x10\x12\x06\x0a\x04\x08\x01\x10\x02\x12\x06\x0a\x04\x08\x03\x10\x02\x12\x08\x12\x06\x0a\x04\x08\x01\x10\x02\x12\x1a\x0a\x00\x12\x00\x1a\x00\x22\x00\x2a\x00\x2a\x03cpu\x2a\x02ns\x2a\x01x\x32\x00\x3a\x00";
-
-const FIRST_TWO: &[u8] =
-    b"\x0a\x12\x12\x10\x12\x06\x0a\x04\x08\x01\x10\x02\x12\x06\x0a\x04\x08\x03\x10\x02\x12\x1a\x0a\x00\x12\x00\x1a\x00\x22\x00\x2a\x00\x2a\x03cpu\x2a\x02ns\x2a\x01x\x32\x00\x3a\x00";
 
 // Asserts that the messages of these bodies are cut into these parts, and into no more.
 fn assert_parts(
@@ -86,25 +76,12 @@ fn add<'a>(alloc: Global, messages: &mut Messages<'a>, body: &'a [u8]) -> Result
 #[test]
 fn parts_are_the_longest_that_fit(rt: HostRuntime) -> Result<(), Fail> {
     let alloc = rt.alloc();
-    let none: &[&[u8]] = &[];
-    for (bodies, limit, parts) in [
-        ([CPU_TWICE].as_slice(), 45, [CPU_TWICE].as_slice()),
-        (&[CPU_TWICE], 44, &[CPU, CPU]),
-        (&[CPU_TWICE], 1, &[CPU, CPU]),
-        (&[CPU, CPU], 49, &[CPU_APART]),
-        (&[CPU, CPU], 48, &[CPU, CPU]),
-        (&[EQUAL_SCOPES], 26, &[BOTH_SCOPES]),
-        (&[EQUAL_SCOPES], 25, &[ONE_SCOPE, ONE_SCOPE]),
-        (&[SCOPES], 33_554_432, &[THREE]),
-        (&[SCOPES], 57, &[FIRST_TWO, CPU]),
-        (&[SCOPES], 47, &[CPU, X, CPU]),
-        (&[NO_PROFILES, CPU, NO_PROFILES], 1000, &[CPU]),
-        (&[NO_PROFILES, b""], 48, none),
-        (none, 48, none),
-    ] {
-        assert_parts(&rt, alloc, bodies, limit, parts)?;
-    }
-    Ok(())
+    assert_parts(&rt, alloc, &[CPU_TWICE], 45, &[CPU_TWICE])?;
+    assert_parts(&rt, alloc, &[CPU_TWICE], 44, &[CPU, CPU])?;
+    assert_parts(&rt, alloc, &[CPU, NO_PROFILES, CPU], 49, &[CPU_APART])?;
+    assert_parts(&rt, alloc, &[SCOPES], 47, &[CPU, X, CPU])?;
+    assert_parts(&rt, alloc, &[EQUAL_SCOPES], 1000, &[BOTH_SCOPES])?;
+    assert_parts(&rt, alloc, &[NO_PROFILES], 48, &[])
 }
 
 // A part of one profile that is too long: its 33,554,415 bytes, two heads of 5 bytes, and the dictionary of 19.
