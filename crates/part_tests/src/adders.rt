@@ -1,5 +1,5 @@
 //! Profiles of messages that are added one by one over one memo.
-ghost use Rattle.std.specs.Prelude.{◌≡◌, ◌<◌, ◌≤◌};
+ghost use Rattle.std.specs.Prelude.{◌≡◌, ◌<◌, ◌≤◌, IfOk};
 ghost use Rattle.otlp_msg.specs.Checked.{value_of};
 ghost use Rattle.otlp_msg.specs.Message.{message_limit};
 
@@ -8,6 +8,7 @@ use crate::positions::{position, position_in};
 use dict_build::{BuildFault, Draft, Joining, ProfileAdder};
 use otlp_msg::{Checked, ProfilePos, read_message};
 use outside::FixedSeeds;
+use pb_wire::NoMemory;
 use std::alloc::Global;
 use std::marker::Brand;
 use std::process::Abort;
@@ -171,32 +172,60 @@ fn try_limits<L: Ledger>(
     )
 }
 
-// Another message and the first one again, whose texts are known already; then all are dropped.
-fn try_messages<L: Ledger>(rt: &impl Abort, alloc: Global, blank: Blank) -> Result<(), Fail>
+// Another message and the first one again, whose texts are known already.
+fn try_turns<'s, 'a, L: Ledger>(
+    rt: &impl Abort,
+    alloc: Global,
+    adder: &mut ProfileAdder<'s, 'a, FixedSeeds>,
+    message: &'s Checked<'a>,
+    named: &'s Checked<'a>,
+    steps: &mut Steps<L>,
+) -> Result<(), Fail> {
+    adder.turn_to(alloc, named)?;
+    let first = added(position(0, 0, 0), Joining::Seam, 46, WITH_NAMED);
+    try_case(rt, alloc, adder, named, first, steps)?;
+    adder.turn_to(alloc, message)?;
+    let x = added(position(0, 0, 1), Joining::Seam, 59, AND_X);
+    try_case(rt, alloc, adder, message, x, steps)
+}
+
+// An adder over a message, with a draft of no records.
+fn begin<'s, 'a>(
+    alloc: Global,
+    message: &'s Checked<'a>,
+) -> Result<ProfileAdder<'s, 'a, FixedSeeds>, NoMemory>
+    ensures { IfOk result (λ adder. adder.message ≡ value_of message.now) }
+{
+    let draft = Draft::begin(alloc, &mut FixedSeeds)?;
+    match ProfileAdder::begin(alloc, draft, message) {
+        Ok(adder) => Ok(adder),
+        Err((_, stop)) => Err(stop),
+    }
+}
+
+// One adder over two messages.
+fn try_adder<'s, 'a, L: Ledger>(
+    rt: &impl Abort,
+    alloc: Global,
+    message: &'s Checked<'a>,
+    named: &'s Checked<'a>,
+    blank: Blank,
+) -> Result<(), Fail>
     requires name { blank.name ≡ L.name }
     requires parts { blank.parts ≡ L.parts }
     requires some { 0 < blank.parts }
 {
     let mut steps = Steps::<L>::begin(blank);
-    let message = read_message(alloc, SCOPES)?;
-    let named = read_message(alloc, NAMED_SCOPE)?;
-    let draft = Draft::begin(alloc, &mut FixedSeeds)?;
-    let Ok(mut adder) = ProfileAdder::begin(alloc, draft, &message) else {
-        return Err("no memory".into());
-    };
-    try_limits(rt, alloc, &mut adder, &message, &mut steps)?;
-    adder.turn_to(alloc, &named)?;
-    let first = added(position(0, 0, 0), Joining::Seam, 46, WITH_NAMED);
-    try_case(rt, alloc, &mut adder, &named, first, &mut steps)?;
-    adder.turn_to(alloc, &message)?;
-    let x = added(position(0, 0, 1), Joining::Seam, 59, AND_X);
-    try_case(rt, alloc, &mut adder, &message, x, &mut steps)?;
-    let draft = adder.into_draft();
-    assert_eq!(rt; draft.size(), 59);
+    let mut adder = begin(alloc, message)?;
+    try_limits(rt, alloc, &mut adder, message, &mut steps)?;
+    try_turns(rt, alloc, &mut adder, message, named, &mut steps)?;
+    assert_eq!(rt; adder.into_draft().size(), 59);
     Ok(())
 }
 
 #[test]
 fn an_adder_goes_back_and_on(rt: HostRuntime) -> Result<(), Fail> {
-    try_messages::<Brand>(&rt, rt.alloc(), Blank::new(1))
+    let message = read_message(rt.alloc(), SCOPES)?;
+    let named = read_message(rt.alloc(), NAMED_SCOPE)?;
+    try_adder::<Brand>(&rt, rt.alloc(), &message, &named, Blank::new(1))
 }
