@@ -29,6 +29,10 @@ put_files (f ∷ fs) told = put_files fs (with_file f.0 f.1 told)
 abbrev pub names_of : List (List ℕ × List ℕ) → List (List ℕ)
 names_of files = map (λ f. f.0) files
 
+-- the bytes of files
+abbrev pub bytes_of : List (List ℕ × List ℕ) → List (List ℕ)
+bytes_of files = map (λ f. f.1) files
+
 -- the first of these files has this name and is untold, and every other name is as before
 abbrev pub FirstUntold : List ℕ → List (List ℕ × List ℕ) → Option FileMap → Option FileMap → Type 0
 FirstUntold name [] old new = ⊥

@@ -5,8 +5,11 @@ pub mod Rebuilt
 pub mod CanonAnswer
 pub mod CheckAnswer
 pub mod MergeAnswer
+pub mod SplitAnswer
 pub mod Answer
 pub mod Causes
 pub mod Delivery
 pub mod RunSteps
 pub mod FaultNames
+pub mod KeptFiles
+pub mod SplitSteps

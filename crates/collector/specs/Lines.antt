@@ -4,7 +4,7 @@ use Rattle.std.specs.List.{list_any}
 use Rattle.std.specs.Fmt.{decimal}
 use Rattle.commands.specs.declared.words.ToolPlan.{ToolPlan}
 use Rattle.commands.specs.declared.words.WordReason.{WordReason}
-use Rattle.commands.specs.declared.words.WordReason.TheVariants.{NoCommand, UnknownCommand, MissingWord, ExtraWord}
+use Rattle.commands.specs.declared.words.WordReason.TheVariants.{NoCommand, UnknownCommand, MissingWord, ExtraWord, BadNumber}
 use Rattle.commands.specs.declared.words.WordRefusal.{WordRefusal}
 use Rattle.commands.specs.declared.words.WordRefusal.TheVariants as word
 use Rattle.collector.specs.declared.stop.ToolRefusal.{ToolRefusal}
@@ -22,6 +22,7 @@ reason_name NoCommand = codes "NoCommand"
 reason_name UnknownCommand = codes "UnknownCommand"
 reason_name MissingWord = codes "MissingWord"
 reason_name ExtraWord = codes "ExtraWord"
+reason_name BadNumber = codes "BadNumber"
 
 -- a file was written
 abbrev pub wrote_text : List ℕ → ℕ → List ℕ

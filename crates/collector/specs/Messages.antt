@@ -16,10 +16,10 @@ abbrev pub after : {A B : Type 0} → Result A Stop → (A → Result B Stop) �
 after (Ok a) next = next a
 after (Err stop) next = Err stop
 
--- what each of these names comes to, in order, up to the first stop
-abbrev pub each : {A : Type 0} → (List ℕ → Result A Stop) → List (List ℕ) → Result (List A) Stop
+-- what each of these comes to, in order, up to the first stop
+abbrev pub each : {A B : Type 0} → (A → Result B Stop) → List A → Result (List B) Stop
 each f [] = Ok []
-each f (name ∷ names) = after (f name) (λ a. after (each f names) (λ rest. Ok (a ∷ rest)))
+each f (a ∷ more) = after (f a) (λ b. after (each f more) (λ rest. Ok (b ∷ rest)))
 
 -- the stop at the refusal of a named file
 abbrev pub stop_of_refusal : List ℕ → Refusal → Stop

@@ -8,7 +8,7 @@ ghost use Rattle.collector.specs.Rebuilt.{IsRebuilt};
 ghost use Rattle.collector.specs.RunSteps.{IsComputed};
 
 use crate::lines::wrote_line;
-use crate::{Output, Stop, ToolRefusal, Writes};
+use crate::{Output, Stop, Writes};
 use dict_build::BuildFault;
 use pb_wire::{Blob, NoMemory, Text};
 use std::alloc::Global;
@@ -29,8 +29,7 @@ pub fn output_of_built(
 {
     match built {
         Ok(bytes) => Ok(output_of_one(alloc, target, bytes)?),
-        Err(BuildFault::OutputLimit { size }) => Err(Stop::Refused(ToolRefusal::Limit { size })),
-        Err(BuildFault::NoMemory) => Err(Stop::NoMemory),
+        Err(fault) => Err(fault.into()),
     }
 }
 

@@ -7,12 +7,14 @@ mod building;
 mod canon_command;
 mod check_command;
 mod deliver;
+mod kept;
 mod lines;
 mod merge_command;
 mod output;
 mod reading;
 mod report;
 mod run;
+mod split_command;
 mod stop;
 mod work;
 

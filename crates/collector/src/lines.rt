@@ -78,5 +78,6 @@ fn name_of(reason: WordReason) -> &'static str
         WordReason::UnknownCommand => "UnknownCommand",
         WordReason::MissingWord => "MissingWord",
         WordReason::ExtraWord => "ExtraWord",
+        WordReason::BadNumber => "BadNumber",
     }
 }

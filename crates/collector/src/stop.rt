@@ -4,6 +4,7 @@ ghost use Rattle.collector.specs.Lines.{status_of, refusal_status, line_of, refu
 
 use crate::lines::{file_line, limit_line, no_memory_line, read_line, words_line, write_line};
 use commands::{WordReason, WordRefusal};
+use dict_build::BuildFault;
 use pb_wire::{NoMemory, Text};
 use std::alloc::{AllocError, Global};
 use thiserror::Error;
@@ -72,6 +73,20 @@ impl From<WordRefusal> for Stop {
                 Stop::Refused(ToolRefusal::Words { place, reason })
             }
             WordRefusal::NoMemory => Stop::NoMemory,
+        }
+    }
+}
+
+impl From<BuildFault> for Stop {
+    ghost use Rattle.std.specs.Prelude.{◌≡◌};
+    ghost use Rattle.collector.specs.Outputs.{stop_of_fault};
+
+    ghost from_gives = { λ f s. s ≡ stop_of_fault f };
+
+    fn from(fault: BuildFault) -> Stop {
+        match fault {
+            BuildFault::OutputLimit { size } => Stop::Refused(ToolRefusal::Limit { size }),
+            BuildFault::NoMemory => Stop::NoMemory,
         }
     }
 }

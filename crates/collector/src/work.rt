@@ -4,6 +4,7 @@ ghost use Rattle.collector.specs.RunSteps.{IsPerformed};
 use crate::canon_command::perform_canon;
 use crate::check_command::perform_check;
 use crate::merge_command::perform_merge;
+use crate::split_command::perform_split;
 use crate::{Output, Stop};
 use commands::ToolPlan;
 use outside::{Files, Seeds};
@@ -25,5 +26,10 @@ pub fn perform<F: Files, M: Seeds>(
             target,
             files: names,
         } => perform_merge(alloc, target, names, files, seeds),
+        ToolPlan::Split {
+            limit,
+            prefix,
+            files: names,
+        } => perform_split(alloc, *limit, prefix, names, files, seeds),
     }
 }

@@ -1,1 +1,3 @@
+pub mod Limits
+pub mod PartNames
 pub mod Plan

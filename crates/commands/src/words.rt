@@ -1,7 +1,8 @@
 //! The command line.
 ghost use Rattle.std.specs.Prelude.{◌≡◌, ◌++◌, ◌∷◌, [], Ok, IfOk, IfErr, OnOk};
-ghost use Rattle.commands.specs.Plan.{planned, some_words, two_words, word_and_some, texts_of, IsWordRefusal};
+ghost use Rattle.commands.specs.Plan.{planned, some_words, two_words, word_and_some, limit_word_and_some, texts_of, IsWordRefusal};
 
+use crate::PartLimit;
 use pb_wire::{List, NoMemory, Text};
 use std::alloc::Global;
 use thiserror::Error;
@@ -13,11 +14,26 @@ pub type Texts = List<Text>;
 #[derive(Drop)]
 pub enum ToolPlan {
     /// Says how much there is in the messages in `files`, of which there is at least one.
-    Check { files: Texts },
+    Check {
+        files: Texts,
+    },
     /// Writes the canonical bytes of the message in `file` to `target`.
-    Canon { file: Text, target: Text },
+    Canon {
+        file: Text,
+        target: Text,
+    },
     /// Joins the messages in `files`, of which there is at least one, and writes the canonical bytes to `target`.
-    Merge { target: Text, files: Texts },
+    Merge {
+        target: Text,
+        files: Texts,
+    },
+    /// Cuts the messages in `files`, of which there is at least one, into parts of at most `limit` bytes, and writes the canonical
+    /// bytes of each part to a file of its own, whose name begins with `prefix`.
+    Split {
+        limit: PartLimit,
+        prefix: Text,
+        files: Texts,
+    },
 }
 
 /// What is wrong with the command line.
@@ -31,6 +47,8 @@ pub enum WordReason {
     MissingWord,
     /// The command takes fewer words.
     ExtraWord,
+    /// The word is no number, or is one that is out of range.
+    BadNumber,
 }
 
 /// Why the command line asks for nothing.
@@ -70,6 +88,9 @@ pub fn plan(alloc: Global, words: &[String]) -> Result<ToolPlan, WordRefusal>
     }
     if command.as_str() == "merge" {
         return merge_plan(alloc, rest);
+    }
+    if command.as_str() == "split" {
+        return split_plan(alloc, rest);
     }
     fault(0, WordReason::UnknownCommand)
 }
@@ -141,5 +162,25 @@ fn merge_plan(alloc: Global, rest: &[String]) -> Result<ToolPlan, WordRefusal>
             target: Text::copy_of(alloc, target.as_str())?,
             files: copies(alloc, files)?,
         }),
+    }
+}
+
+// `split LIMIT PREFIX IN..`, without its command.
+fn split_plan(alloc: Global, rest: &[String]) -> Result<ToolPlan, WordRefusal>
+    ensures ok { IfOk result (λ plan. limit_word_and_some ToolPlan.Split (texts_of rest.now) ≡ Ok plan) }
+    ensures refused { IfErr result (IsWordRefusal (limit_word_and_some ToolPlan.Split (texts_of rest.now))) }
+{
+    match rest {
+        [] => fault(1, WordReason::MissingWord),
+        [_] => fault(2, WordReason::MissingWord),
+        [_, _] => fault(3, WordReason::MissingWord),
+        [limit, prefix, files @ ..] => match PartLimit::of_word(limit.as_str()) {
+            Some(limit) => Ok(ToolPlan::Split {
+                limit,
+                prefix: Text::copy_of(alloc, prefix.as_str())?,
+                files: copies(alloc, files)?,
+            }),
+            None => fault(1, WordReason::BadNumber),
+        },
     }
 }
