@@ -1,8 +1,8 @@
 //! Messages, and canonical bytes that were worked out by hand from their definition.
 use std::alloc::{AllocError, Global};
 
-/// One resource record without a head. Its first scope record has a profile of the type cpu in ns and one of x in ns, and its second
-/// one of cpu in ns.
+/// One resource record without a head. Its first scope record has a profile of the type cpu in ns and one of x in ns, and its
+/// second one of cpu in ns.
 pub const SCOPES: &[u8] =
     b"\x0a\x1c\x12\x10\x12\x06\x0a\x04\x08\x02\x10\x03\x12\x06\x0a\x04\x08\x01\x10\x03\x12\x08\x12\x06\x0a\x04\x08\x02\x10\x03\x12\x0e\x2a\x00\x2a\x01x\x2a\x03cpu\x2a\x02ns";
 
@@ -24,8 +24,8 @@ pub const NONE: &[u8] = b"\x12\x0e\x0a\x00\x12\x00\x1a\x00\x22\x00\x2a\x00\x32\x
 const LONG_FRONT: &[u8] =
     b"\x12\x05\x2a\x00\x2a\x01x\x0a\xf4\xff\xff\x0f\x12\xef\xff\xff\x0f\x12\xea\xff\xff\x0f\x0a\x02\x08\x01\x52\xe1\xff\xff\x0f";
 
-/// A message as long as one may be, of one profile of the type x, without heads. The canonical bytes of a message with this profile
-/// have 33,554,415 bytes for it.
+/// A message as long as one may be, of one profile of the type x, without heads. In canonical bytes the profile has 33,554,415
+/// with its tag and its length.
 pub fn long_body(alloc: Global) -> Result<Vec<u8>, AllocError> {
     let mut body = Vec::new(alloc);
     body.extend_from_slice(LONG_FRONT)?;
