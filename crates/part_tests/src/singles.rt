@@ -19,8 +19,8 @@ use tables::Steps;
 // A resource with an attribute, and in a scope without a head an empty profile.
 const RESOURCE: &[u8] = b"\x0a\x0f\x0a\x09\x0a\x07\x0a\x01k\x12\x02\x18\x05\x12\x02\x12\x00";
 
-// Eight profiles, as they are added below: a scope record of two, and one of two under the same resource record; the first one in
-// a resource record of its own, and under it the scope `s`; the resource; and the scope `s` without a resource.
+// Eight profiles, as they are added below: a scope record of two, and one of two under the same resource record; the first one
+// in a resource record of its own, and under it the scope `s`; the resource; and the scope `s` without a resource.
 const JOINED: &[u8] =
     b"\x0a\x24\x12\x10\x12\x06\x0a\x04\x08\x01\x10\x02\x12\x06\x0a\x04\x08\x03\x10\x02\x12\x10\x12\x06\x0a\x04\x08\x03\x10\x02\x12\x06\x0a\x04\x08\x03\x10\x02\x0a\x13\x12\x08\x12\x06\x0a\x04\x08\x01\x10\x02\x12\x07\x0a\x03\x0a\x01s\x12\x00\x0a\x0f\x0a\x09\x0a\x07\x0a\x01k\x12\x02\x18\x05\x12\x02\x12\x00\x0a\x09\x12\x07\x0a\x03\x0a\x01s\x12\x00\x12\x1a\x0a\x00\x12\x00\x1a\x00\x22\x00\x2a\x00\x2a\x01x\x2a\x02ns\x2a\x03cpu\x32\x00\x3a\x00";
 
@@ -106,7 +106,7 @@ fn try_joinings<L: Ledger>(rt: &impl Abort, alloc: Global, blank: Blank) -> Resu
 }
 
 // A profile that is too long beside another one, however it is joined. Beside its 33,554,415 bytes there are 8 of the other and
-// 28 of the dictionary with the text that it brings; and two heads of 5 bytes; or three, of 5, 5 and 2; or four, of 5, 5, 2 and 2.
+// 28 of the dictionary with the text that it brings; then two heads of 5 bytes each, a third one of 2, or two more of 2 each.
 fn try_refusals<L: Ledger>(rt: &impl Abort, alloc: Global, blank: Blank) -> Result<(), Fail>
     requires name { blank.name ≡ L.name }
     requires parts { blank.parts ≡ L.parts }
