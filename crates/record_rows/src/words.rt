@@ -31,6 +31,15 @@ fn plan_told(alloc: Global, plan: &ToolPlan) -> Result<String, AllocError> {
             let told = files_told(alloc, "merge", files)?;
             format!(in alloc; "{told} to [{}]", target.as_str())
         }
+        ToolPlan::Split {
+            limit,
+            prefix,
+            files,
+        } => {
+            let told = files_told(alloc, "split", files)?;
+            let limit = limit.bytes();
+            format!(in alloc; "{told} to [{}] at {limit}", prefix.as_str())
+        }
     }
 }
 
