@@ -2,9 +2,9 @@
 use Rattle.std.proofs.Common.{◌≡◌, ℕ, zero, suc, pos, negsuc, List, [], ◌∷◌, map, get_or, refl, sym, ap, ◌∙◌}
 use Rattle.schema.specs.Messages.{dictionary, entries_in, entry}
 use Rattle.schema.specs.Shape.{Shape, Number, Fixed, Bytes, Text, Any, Index, End, One, Many, Table, Value, empty}
-use Rattle.meaning.specs.Tree.{Tree, tree, value, listed, elements, Integer}
+use Rattle.meaning.specs.Tree.{Tree, tree, value, listed, elements}
 use Rattle.meaning.specs.Tables.{Tables}
-use Rattle.meaning.specs.Meaning.{at_each, blank, entry_at, resolve}
+use Rattle.meaning.specs.Meaning.{at_each, blank, resolve}
 use Rattle.meaning.specs.Message.{tables_in}
 use Rattle.meaning.proofs.Trees.{value-tree}
 use Rattle.shown.specs.Direct.{direct, meant}
