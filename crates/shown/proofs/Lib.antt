@@ -1,0 +1,4 @@
+pub mod Meant
+pub mod Visible
+pub mod Appended
+pub mod Written
