@@ -8,7 +8,7 @@ use Rattle.collector.specs.declared.stop.Stop.TheVariants.{Refused, Read, Write,
 use Rattle.collector.specs.Causes.{IsStop}
 use Rattle.collector.specs.MergeAnswer.{Gains}
 use Rattle.collector.specs.Messages.{after, each, message_at}
-use Rattle.collector.specs.RunSteps.{ComputesTo, IsComputed, IsRead, ReadsTo}
+use Rattle.collector.specs.RunSteps.{ComputesTo, IsRead, ReadsTo}
 use Rattle.collector.proofs.Each.{Names, each_more, each_stopped}
 use Rattle.collector.proofs.RunSteps.{computed_after, read_more, read_stops}
 

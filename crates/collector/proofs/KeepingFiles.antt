@@ -1,5 +1,5 @@
 -- Files whose bytes are kept, one after the other, and the messages in them.
-use Rattle.std.proofs.Common.{◌≡◌, ℕ, List, [], ◌∷◌, ◌++◌, ◌+◌, ◌<◌, length, take, drop, map, refl, sym, ap, ◌∙◌, get_or, Option, Some, None, Result, Ok, Err, IfSome, subst}
+use Rattle.std.proofs.Common.{◌≡◌, ℕ, List, [], ◌∷◌, ◌++◌, ◌+◌, ◌<◌, length, take, drop, map, sym, ap, ◌∙◌, get_or, Ok, Err, IfSome, subst}
 use Rattle.std.proofs.lemmas.List.{map-append}
 use Rattle.outside.specs.declared.files.Files.{Ghosts as OfFiles}
 use Rattle.otlp_msg.specs.Checked.{value_of}
@@ -9,7 +9,7 @@ use Rattle.collector.specs.declared.kept.KeptFile.{KeptFile}
 use Rattle.collector.specs.declared.stop.Stop.{Stop}
 use Rattle.collector.specs.declared.stop.Stop.TheVariants.{Refused, Read, Write, NoMemory}
 use Rattle.collector.specs.Causes.{IsStop}
-use Rattle.collector.specs.KeptFiles.{AreKept, StopsAfter, bodies_kept, kept_file, message_in, names_kept}
+use Rattle.collector.specs.KeptFiles.{AreKept, StopsAfter, bodies_kept, kept_file, message_in}
 use Rattle.collector.specs.Messages.{bytes_at, each}
 use Rattle.collector.specs.RunSteps.{IsRead}
 use Rattle.collector.proofs.Each.{Names, each_more, each_stopped, midst, up_to}

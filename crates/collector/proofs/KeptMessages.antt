@@ -1,15 +1,15 @@
 -- Messages that are read from kept files are those that the files hold.
-use Rattle.std.proofs.Common.{◌≡◌, ℕ, List, [], ◌∷◌, ◌++◌, map, inl, inr, refl, sym, ap, ◌∙◌, Option, Some, None, Result, Ok, Err, IsOk, IfSome, subst, arith}
+use Rattle.std.proofs.Common.{◌≡◌, ℕ, List, [], ◌∷◌, ◌++◌, inl, inr, refl, sym, ap, ◌∙◌, Option, Some, None, Result, Ok, Err, IsOk, IfSome, subst, arith}
 use Rattle.outside.specs.FileMap.{FileMap}
 use Rattle.outside.specs.declared.files.Files.{Ghosts as OfFiles}
-use Rattle.otlp_msg.specs.Message.{Message, message_of}
+use Rattle.otlp_msg.specs.Message.{Message}
 use Rattle.collector.specs.declared.kept.KeptFile.{KeptFile}
 use Rattle.collector.specs.declared.stop.Stop.{Stop}
 use Rattle.collector.specs.declared.stop.Stop.TheVariants.{Refused, Read, Write, NoMemory}
-use Rattle.collector.specs.Causes.{ReadFailedAt, IsNextOf, IsStop, IsOfInput, ReadCause}
+use Rattle.collector.specs.Causes.{ReadFailedAt, IsStop, IsOfInput, ReadCause}
 use Rattle.collector.specs.KeptFiles.{AreKept, EndsWith, IsFirstStop, StopsAfter, bodies_kept, message_in, names_kept}
-use Rattle.collector.specs.Messages.{accepted, after, bytes_at, each, message_at}
-use Rattle.collector.specs.RunSteps.{IsRead, OnlyReads}
+use Rattle.collector.specs.Messages.{after, bytes_at, each, message_at}
+use Rattle.collector.specs.RunSteps.{IsRead}
 use Rattle.collector.proofs.Each.{Names, WentOn, went_on, each-early, each-stops, only_name}
 use Rattle.collector.proofs.RunSteps.{no_fault, of_reading}
 

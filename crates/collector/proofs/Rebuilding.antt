@@ -1,5 +1,5 @@
 -- What is kept of a value that came is kept of the one that was wanted.
-use Rattle.std.proofs.Common.{◌≡◌, Option, Some, None, Result, Ok, Err, IfOk, IfSome, IsOkAnd, subst, sym, ap, ◌∙◌}
+use Rattle.std.proofs.Common.{◌≡◌, Option, Some, None, Result, Ok, Err, IfOk, IfSome, IsOkAnd, subst, sym}
 use Rattle.outside.specs.FileMap.{FileMap}
 use Rattle.collector.specs.Messages.{after}
 use Rattle.collector.specs.declared.output.Output.{Output}

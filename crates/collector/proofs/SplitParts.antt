@@ -20,11 +20,9 @@ use Rattle.collector.specs.declared.output.Output.{Output}
 use Rattle.collector.specs.declared.stop.ToolRefusal.TheVariants.{Limit}
 use Rattle.collector.specs.declared.stop.Stop.{Stop}
 use Rattle.collector.specs.declared.stop.Stop.TheVariants.{Refused}
-use Rattle.collector.specs.declared.stop.Stop.TheVariants as stop
 use Rattle.collector.specs.Causes.{IsStop, IsOfInput}
-use Rattle.collector.specs.Delivery.{names_of, bytes_of}
 use Rattle.collector.specs.Lines.{wrote_text}
-use Rattle.collector.specs.Messages.{after, each}
+use Rattle.collector.specs.Messages.{each}
 use Rattle.collector.specs.Outputs.{built, files_written, stop_of_fault}
 use Rattle.collector.specs.RunSteps.{IsComputed}
 use Rattle.collector.specs.SplitAnswer.{ArePartFiles, IsPart, part_bytes, part_files, split_files}
@@ -72,7 +70,7 @@ output_more prefix bs b =
     let name : List ℕ = part_name prefix (length (part_files prefix bs)) in
     let lines : written (part_files prefix bs) ++ wrote_text name (length b) ≡ written (part_files prefix bs ++ (name, b) ∷ []) =
     ap (λ (t : List ℕ). written (part_files prefix bs) ++ t) (sym (append-nil (wrote_text name (length b))))
-        ∙ sym (flat_map-append (λ (f : List ℕ × List ℕ). wrote_text f.0 (length f.1)) (part_files prefix bs) ((name, b) ∷ []))
+    ∙ sym (flat_map-append (λ (f : List ℕ × List ℕ). wrote_text f.0 (length f.1)) (part_files prefix bs) ((name, b) ∷ []))
     in
     ap (λ (t : List ℕ). record { files = part_files prefix bs ++ (name, b) ∷ []; lines = t }) lines
     ∙ ap files_written (sym (files-more prefix bs b))

@@ -1,9 +1,8 @@
 -- A split is performed where its files are kept, their messages are read, and the parts are computed from these.
-use Rattle.std.proofs.Common.{◌≡◌, ℕ, suc, ◌+◌, List, [], ◌∷◌, length, map, refl, sym, ap, ◌∙◌, Option, Some, None, Result, Ok, Err, IfOk, subst}
-use Rattle.std.specs.List.{range_with_len}
+use Rattle.std.proofs.Common.{◌≡◌, ℕ, List, length, sym, ap, ◌∙◌, Option, None, Result, Ok, Err, IfOk, subst}
 use Rattle.outside.specs.declared.files.Files.{Ghosts as OfFiles}
 use Rattle.otlp_msg.specs.Message.{Message}
-use Rattle.commands.specs.PartNames.{part_name, part_names}
+use Rattle.commands.specs.PartNames.{part_names}
 use Rattle.commands.specs.declared.words.ToolPlan.TheVariants.{Split}
 use Rattle.split_merge.specs.Splits.{split_parts}
 use Rattle.collector.specs.declared.kept.KeptFile.{KeptFile}

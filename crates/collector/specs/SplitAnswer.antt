@@ -1,5 +1,5 @@
 -- The answer of `split LIMIT PREFIX IN..`, and what its output keeps.
-use Rattle.std.specs.Prelude.{◌≡◌, ℕ, ◌≤◌, ◌⊎◌, List, [], ◌∷◌, length, map, Result, Ok, IsOkAnd}
+use Rattle.std.specs.Prelude.{◌≡◌, ℕ, ◌≤◌, ◌⊎◌, List, [], ◌∷◌, length, Result, Ok, IsOkAnd}
 use Rattle.std.specs.List.{zip, AllZip}
 use Rattle.outside.specs.FileMap.{FileMap}
 use Rattle.otlp_msg.specs.Message.{Message}

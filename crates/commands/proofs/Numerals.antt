@@ -39,4 +39,4 @@ none_read {E = E} word bytes plus e r few same begins none is h =
     let at = subst (ParsesUnsigned {E = E} 64 10 word) is h in
     let p = parse_plain own {E = E} 64 word (Err e) at (plain_of word bytes plus same begins none) in
     none_of (is_short_number word) word refl
-        (λ short. let d = is_number word short in p (d.0, d.1, omega (arith, digits_value_short own word 8 d.0 few)))
+    (λ short. let d = is_number word short in p (d.0, d.1, omega (arith, digits_value_short own word 8 d.0 few)))
