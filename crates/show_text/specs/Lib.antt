@@ -1,0 +1,2 @@
+pub mod ProfileLine
+pub mod Showing
