@@ -1,4 +1,5 @@
-"""What `bench/canon`, `bench/merge` and `bench/split` share: the programs that are measured, how they are measured, and how tables are printed."""
+"""What `bench/canon`, `bench/merge`, `bench/show` and `bench/split` share: the programs that are measured, how they are
+measured, and how tables are printed."""
 
 import os
 import re
@@ -13,8 +14,12 @@ ROUNDS = 3
 SECONDS = 600
 
 
-def run(command, **options):
-    return subprocess.run(command, check=True, timeout=SECONDS, stdout=subprocess.DEVNULL, **options)
+def run(command, status=0, **options):
+    """Runs a command that must end with this status."""
+    done = subprocess.run(command, timeout=SECONDS, stdout=subprocess.DEVNULL, **options)
+    if done.returncode != status:
+        raise subprocess.CalledProcessError(done.returncode, command)
+    return done
 
 
 def works(*command):
@@ -55,10 +60,10 @@ def processor_times(commands):
     return dict(zip(commands, map(min, zip(*rounds))))
 
 
-def instructions(command, folder):
-    """The instructions of a run, the start of the program included."""
+def instructions(command, folder, status=0):
+    """The instructions of a run that ends with this status, the start of the program included."""
     callgrind = ["valgrind", "--tool=callgrind", "--vgdb=no", f"--callgrind-out-file={folder}/calls"]
-    report = run([*callgrind, *command], stderr=subprocess.PIPE, text=True).stderr
+    report = run([*callgrind, *command], status, stderr=subprocess.PIPE, text=True).stderr
     return int(re.search(r"Collected : (\d+)", report)[1])
 
 

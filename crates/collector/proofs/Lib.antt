@@ -11,3 +11,5 @@ pub mod Held
 pub mod Performing
 pub mod CheckLines
 pub mod FaultNames
+pub mod Carrying
+pub mod Streaming

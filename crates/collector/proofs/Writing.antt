@@ -77,14 +77,13 @@ told_seen : Option FileMap → ℕ → Option (List ℕ) → ℕ → Seen
 told_seen told faults taken out = record { told = told; write_faults = faults; taken = taken; out_faults = out }
 
 -- where an output was wanted, over files that were only read before
-pub part_written : {T : Type 0} (told mid : Option FileMap) (want : FileMap → Result Output Stop) (output : Output) (faults faults' : ℕ) (taken : Option (List ℕ)) (out : ℕ) (now : Seen) (r : Result T Stop)
+pub part_written : (told mid : Option FileMap) (want : FileMap → Result Output Stop) (output : Output) (faults faults' : ℕ) (taken : Option (List ℕ)) (out : ℕ) (now : Seen) (stop : Stop)
     → mid ≡ told → faults' ≡ faults → IfSome told (λ m. want m ≡ Ok output)
-    → IfErr r (OutputLeft output (record { told = mid; write_faults = faults'; taken = taken; out_faults = out }) now)
-    → IfErr r (λ _. IfSome told (λ m. PartDelivered (want m) (record { told = told; write_faults = faults; taken = taken; out_faults = out }) now))
+    → OutputLeft output (record { told = mid; write_faults = faults'; taken = taken; out_faults = out }) now stop
+    → IfSome told (λ m. PartDelivered (want m) (record { told = told; write_faults = faults; taken = taken; out_faults = out }) now)
 unfolding told_seen
-part_written told mid want output faults faults' taken out now (Ok value) same count wanted left = tt
-part_written None mid want output faults faults' taken out now (Err stop) same count wanted left = tt
-part_written (Some m) mid want output faults faults' taken out now (Err stop) same count wanted left =
+part_written None mid want output faults faults' taken out now stop same count wanted left = tt
+part_written (Some m) mid want output faults faults' taken out now stop same count wanted left =
     let is : told_seen mid faults' taken out ≡ told_seen (Some m) faults taken out =
     ap (λ (o : Option FileMap). told_seen o faults' taken out) same ∙ ap (λ n. told_seen (Some m) n taken out) count
     in

@@ -2,7 +2,7 @@
 use Rattle.std.specs.Prelude.{ℕ, List, [], Result, Ok, Err}
 use Rattle.outside.specs.FileMap.{FileMap}
 use Rattle.commands.specs.declared.words.ToolPlan.{ToolPlan}
-use Rattle.commands.specs.declared.words.ToolPlan.TheVariants.{Check, Canon, Merge, Split}
+use Rattle.commands.specs.declared.words.ToolPlan.TheVariants.{Check, Show, Canon, Merge, Split}
 use Rattle.commands.specs.declared.words.WordRefusal.{WordRefusal}
 use Rattle.collector.specs.declared.output.Output.{Output}
 use Rattle.collector.specs.declared.stop.Stop.{Stop}
@@ -11,11 +11,13 @@ use Rattle.collector.specs.Lines.{status_of, line_of, stop_of_words}
 use Rattle.collector.specs.CanonAnswer.{canon_answer, CanonKeeps}
 use Rattle.collector.specs.CheckAnswer.{check_answer, CheckKeeps}
 use Rattle.collector.specs.MergeAnswer.{merge_answer, MergeKeeps}
+use Rattle.collector.specs.ShowAnswer.{show_answer, ShowKeeps}
 use Rattle.collector.specs.SplitAnswer.{split_answer, SplitKeeps}
 
 -- what a plan comes to; one line a command
 abbrev pub performed : ToolPlan → FileMap → Result Output Stop
 performed (Check files) m = check_answer m files
+performed (Show file) m = show_answer m file
 performed (Canon file target) m = canon_answer m file target
 performed (Merge target files) m = merge_answer m target files
 performed (Split limit prefix files) m = split_answer m limit prefix files
@@ -23,6 +25,7 @@ performed (Split limit prefix files) m = split_answer m limit prefix files
 -- what the output of a plan keeps; one line a command
 abbrev pub KeepsMeaning : ToolPlan → FileMap → Output → Type 0
 KeepsMeaning (Check files) m output = CheckKeeps m files output
+KeepsMeaning (Show file) m output = ShowKeeps m file output
 KeepsMeaning (Canon file target) m output = CanonKeeps m file target output
 KeepsMeaning (Merge target files) m output = MergeKeeps m target files output
 KeepsMeaning (Split limit prefix files) m output = SplitKeeps m limit prefix files output

@@ -6,6 +6,7 @@ pub mod CanonAnswer
 pub mod CheckAnswer
 pub mod MergeAnswer
 pub mod SplitAnswer
+pub mod ShowAnswer
 pub mod Answer
 pub mod Causes
 pub mod Delivery
@@ -13,3 +14,5 @@ pub mod RunSteps
 pub mod FaultNames
 pub mod KeptFiles
 pub mod SplitSteps
+pub mod Carrying
+pub mod ShowSteps

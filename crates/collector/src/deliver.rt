@@ -1,4 +1,5 @@
 //! Writes an output: the files in order, then the lines.
+ghost use Rattle.collector.specs.Carrying.{Delivers};
 ghost use Rattle.collector.specs.Causes.{IsWriteAt};
 ghost use Rattle.collector.specs.RunSteps.{IsWritten, AreWritten, IsDelivered};
 
@@ -26,6 +27,21 @@ pub fn write_output<F: Files, O: Sink>(
     }
 }
 
+/// The same of the output of a plan, if there is one.
+pub fn write_performed<F: Files, O: Sink>(
+    alloc: Global,
+    performed: Result<Output, Stop>,
+    files: &mut F,
+    out: &mut O,
+) -> Result<(), Stop>
+    ensures { Delivers F.Files O.Sink files.old files.new out.old out.new performed result }
+{
+    match performed {
+        Ok(output) => write_output(alloc, &output, files, out),
+        Err(stop) => Err(stop),
+    }
+}
+
 // The files in order, up to the first that isn't written.
 fn write_files<F: Files>(alloc: Global, list: &[(Text, Blob)], files: &mut F) -> Result<(), Stop>
     ensures { AreWritten F.Files files.old files.new list.now result }
@@ -48,8 +64,8 @@ fn write_one<F: Files>(alloc: Global, name: &Text, bytes: &Blob, files: &mut F) 
     }
 }
 
-// The stop at a failed write under this name.
-fn write_stop(alloc: Global, name: &str) -> Stop
+/// The stop at a failed write under this name.
+pub fn write_stop(alloc: Global, name: &str) -> Stop
     ensures { IsWriteAt name.now (λ _. Unit {0}) result }
 {
     match Text::copy_of(alloc, name) {

@@ -40,7 +40,7 @@ pub fn file_line(alloc: Global, name: &str, text: &str) -> Result<Text, NoMemory
 }
 
 /// On the standard error: the output would have this number of bytes.
-pub fn limit_line(alloc: Global, size: u64) -> Result<Text, NoMemory>
+pub fn limit_line(alloc: Global, size: u128) -> Result<Text, NoMemory>
     ensures { IfOk result (λ line. line ≡ limit_text size) }
 {
     let line = format!(in alloc; "output limit: {size} bytes\n")?;

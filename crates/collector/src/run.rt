@@ -9,7 +9,7 @@ ghost use Rattle.collector.specs.Causes.{ReadFailedAt, WriteFailedAt, IsStop, Is
 ghost use Rattle.collector.specs.Delivery.{seen, put_files, Delivered, PartDelivered, LeftAtWrite, Unchanged, Untouched, NoneCounted, IsAnswered};
 ghost use Rattle.collector.specs.FaultNames.{TookLine, FailedRead, FailedWrite};
 
-use crate::{Stop, perform, tell, write_output};
+use crate::{Stop, carry, tell};
 use commands::plan;
 use outside::{Files, Seeds, Sink};
 use std::alloc::Global;
@@ -37,10 +37,7 @@ fn carry_out<F: Files, O: Sink, M: Seeds>(
     ensures part { IfErr result (λ _. IfSome (F.told files.old) (λ m. PartDelivered (outcome (texts_of words.now) m) (seen F.Files O.Sink files.old out.old) (seen F.Files O.Sink files.new out.new))) }
 {
     let plan = plan(alloc, words)?;
-    match perform(alloc, &plan, files, seeds) {
-        Ok(output) => write_output(alloc, &output, files, out),
-        Err(stop) => Err(stop),
-    }
+    carry(alloc, &plan, files, out, seeds)
 }
 
 /// Does what the command line says, and answers the status. It waits for nobody and always returns.

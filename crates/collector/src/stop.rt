@@ -20,7 +20,7 @@ pub enum ToolRefusal {
     File { name: Text, text: Text },
     /// The output would have this number of bytes, which is above its limit.
     #[error("output limit: {size} bytes")]
-    Limit { size: u64 },
+    Limit { size: u128 },
 }
 
 /// Why a run ended without its output. `line` is what the tool prints; the display is for logs.
@@ -85,7 +85,9 @@ impl From<BuildFault> for Stop {
 
     fn from(fault: BuildFault) -> Stop {
         match fault {
-            BuildFault::OutputLimit { size } => Stop::Refused(ToolRefusal::Limit { size }),
+            BuildFault::OutputLimit { size } => Stop::Refused(ToolRefusal::Limit {
+                size: size as u128,
+            }),
             BuildFault::NoMemory => Stop::NoMemory,
         }
     }

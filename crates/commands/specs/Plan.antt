@@ -3,7 +3,7 @@ use Rattle.std.specs.Prelude.{◌≡◌, ℕ, Bool, List, [], ◌∷◌, length,
 use Rattle.std.specs.Cmp.Lexicographic.{pointwise}
 use Rattle.std.specs.declared.alloc.Global.{Global}
 use Rattle.commands.specs.declared.words.ToolPlan.{ToolPlan}
-use Rattle.commands.specs.declared.words.ToolPlan.TheVariants.{Check, Canon, Merge, Split}
+use Rattle.commands.specs.declared.words.ToolPlan.TheVariants.{Check, Show, Canon, Merge, Split}
 use Rattle.commands.specs.declared.words.WordReason.TheVariants.{NoCommand, UnknownCommand, MissingWord, ExtraWord, BadNumber}
 use Rattle.commands.specs.declared.words.WordRefusal.{WordRefusal}
 use Rattle.commands.specs.declared.words.WordRefusal.TheVariants.{Fault, NoMemory}
@@ -22,6 +22,12 @@ is_word word name = pointwise nat_eq word name
 abbrev pub some_words : (List (List ℕ) → ToolPlan) → List (List ℕ) → Result ToolPlan WordRefusal
 some_words make [] = Err (Fault 1 MissingWord)
 some_words make (a ∷ more) = Ok (make (a ∷ more))
+
+-- a command that takes exactly one word
+abbrev pub one_word : (List ℕ → ToolPlan) → List (List ℕ) → Result ToolPlan WordRefusal
+one_word make [] = Err (Fault 1 MissingWord)
+one_word make (a ∷ []) = Ok (make a)
+one_word make (a ∷ b ∷ more) = Err (Fault 2 ExtraWord)
 
 -- a command that takes exactly two words
 abbrev pub two_words : (List ℕ → List ℕ → ToolPlan) → List (List ℕ) → Result ToolPlan WordRefusal
@@ -53,6 +59,7 @@ abbrev pub planned : List (List ℕ) → Result ToolPlan WordRefusal
 planned [] = Err (Fault 0 NoCommand)
 planned (command ∷ rest) =
     if is_word command (codes "check") then some_words Check rest
+    else if is_word command (codes "show") then one_word Show rest
     else if is_word command (codes "canon") then two_words Canon rest
     else if is_word command (codes "merge") then word_and_some Merge rest
     else if is_word command (codes "split") then limit_word_and_some Split rest
@@ -61,6 +68,7 @@ planned (command ∷ rest) =
 -- the files that a plan reads, in order; one line a command
 abbrev pub inputs : ToolPlan → List (List ℕ)
 inputs (Check files) = files
+inputs (Show file) = file ∷ []
 inputs (Canon file target) = file ∷ []
 inputs (Merge target files) = files
 inputs (Split limit prefix files) = files
@@ -68,6 +76,7 @@ inputs (Split limit prefix files) = files
 -- these are the names of the files that a plan writes, in order; one line a command
 abbrev pub HasTargets : ToolPlan → List (List ℕ) → Type 0
 HasTargets (Check files) names = names ≡ []
+HasTargets (Show file) names = names ≡ []
 HasTargets (Canon file target) names = names ≡ target ∷ []
 HasTargets (Merge target files) names = names ≡ target ∷ []
 HasTargets (Split limit prefix files) names = names ≡ part_names prefix (length names)

@@ -1,6 +1,6 @@
 //! The command line.
 ghost use Rattle.std.specs.Prelude.{◌≡◌, ◌++◌, ◌∷◌, [], Ok, IfOk, IfErr, OnOk};
-ghost use Rattle.commands.specs.Plan.{planned, some_words, two_words, word_and_some, limit_word_and_some, texts_of, IsWordRefusal};
+ghost use Rattle.commands.specs.Plan.{planned, some_words, one_word, two_words, word_and_some, limit_word_and_some, texts_of, IsWordRefusal};
 
 use crate::PartLimit;
 use pb_wire::{List, NoMemory, Text};
@@ -16,6 +16,10 @@ pub enum ToolPlan {
     /// Says how much there is in the messages in `files`, of which there is at least one.
     Check {
         files: Texts,
+    },
+    /// Prints what the message in `file` means, as text.
+    Show {
+        file: Text,
     },
     /// Writes the canonical bytes of the message in `file` to `target`.
     Canon {
@@ -83,6 +87,9 @@ pub fn plan(alloc: Global, words: &[String]) -> Result<ToolPlan, WordRefusal>
     if command.as_str() == "check" {
         return check_plan(alloc, rest);
     }
+    if command.as_str() == "show" {
+        return show_plan(alloc, rest);
+    }
     if command.as_str() == "canon" {
         return canon_plan(alloc, rest);
     }
@@ -132,6 +139,20 @@ fn add_copy(alloc: Global, word: &str, texts: &mut Texts) -> Result<(), NoMemory
     ensures { OnOk result (texts.new ≡ texts.old ++ word.now ∷ []) }
 {
     texts.add(Text::copy_of(alloc, word)?)
+}
+
+// `show IN`, without its command.
+fn show_plan(alloc: Global, rest: &[String]) -> Result<ToolPlan, WordRefusal>
+    ensures ok { IfOk result (λ plan. one_word ToolPlan.Show (texts_of rest.now) ≡ Ok plan) }
+    ensures refused { IfErr result (IsWordRefusal (one_word ToolPlan.Show (texts_of rest.now))) }
+{
+    match rest {
+        [] => fault(1, WordReason::MissingWord),
+        [file] => Ok(ToolPlan::Show {
+            file: Text::copy_of(alloc, file.as_str())?,
+        }),
+        _ => fault(2, WordReason::ExtraWord),
+    }
 }
 
 // `canon IN OUT`, without its command.

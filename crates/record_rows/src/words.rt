@@ -24,6 +24,7 @@ pub fn words_of(alloc: Global, data: &str) -> Result<Vec<String>, AllocError> {
 fn plan_told(alloc: Global, plan: &ToolPlan) -> Result<String, AllocError> {
     match plan {
         ToolPlan::Check { files } => files_told(alloc, "check", files),
+        ToolPlan::Show { file } => format!(in alloc; "show [{}]", file.as_str()),
         ToolPlan::Canon { file, target } => {
             format!(in alloc; "canon [{}] to [{}]", file.as_str(), target.as_str())
         }
